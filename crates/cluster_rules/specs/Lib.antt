@@ -1,0 +1,6 @@
+pub mod Links
+pub mod Clusters
+pub mod ClusterStep
+pub mod Run
+pub mod Safe
+pub mod ClusterRows
