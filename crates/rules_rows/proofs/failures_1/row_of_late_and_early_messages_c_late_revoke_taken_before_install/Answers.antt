@@ -1,0 +1,7 @@
+use mathlib.Core.Path.{refl}
+use Rattle.rules_rows.proofs.Opened.{all_rules}
+use Rattle.rules_rows.proofs.failures_1.row_of_late_and_early_messages_c_late_revoke_taken_before_install.Goals as goal
+
+pub returns : goal.returns
+unfolding all_rules
+returns c = record { read = refl; printed = refl; safe = refl }

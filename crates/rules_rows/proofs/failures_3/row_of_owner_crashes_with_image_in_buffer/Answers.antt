@@ -1,0 +1,7 @@
+use mathlib.Core.Path.{refl}
+use Rattle.rules_rows.proofs.Opened.{all_rules}
+use Rattle.rules_rows.proofs.failures_3.row_of_owner_crashes_with_image_in_buffer.Goals as goal
+
+pub returns : goal.returns
+unfolding all_rules
+returns c = record { read = refl; printed = refl; safe = refl }

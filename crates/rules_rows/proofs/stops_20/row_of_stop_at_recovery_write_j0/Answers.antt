@@ -1,0 +1,7 @@
+use mathlib.Core.Path.{refl}
+use Rattle.rules_rows.proofs.Opened.{all_rules}
+use Rattle.rules_rows.proofs.stops_20.row_of_stop_at_recovery_write_j0.Goals as goal
+
+pub returns : goal.returns
+unfolding all_rules
+returns c = record { read = refl; printed = refl; safe = refl }

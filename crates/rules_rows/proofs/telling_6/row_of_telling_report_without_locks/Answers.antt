@@ -1,0 +1,7 @@
+use mathlib.Core.Path.{refl}
+use Rattle.rules_rows.proofs.Opened.{all_rules}
+use Rattle.rules_rows.proofs.telling_6.row_of_telling_report_without_locks.Goals as goal
+
+pub returns : goal.returns
+unfolding all_rules
+returns c = record { read = refl; printed = refl; safe = refl }

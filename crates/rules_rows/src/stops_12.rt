@@ -1,0 +1,11 @@
+//! Worked schedules: stops 12.
+
+ghost use Rattle.rules_rows.specs.Schedules.{ReadsAs, Prints, StaysSafe};
+ghost use Rattle.rules_rows.specs.Stops12.{stop_at_node0_call4_cut_j35};
+
+/// Stop at node0 call4 cut j35.
+pub fn row_of_stop_at_node0_call4_cut_j35()
+    ensures read { ReadsAs stop_at_node0_call4_cut_j35 }
+    ensures printed { Prints stop_at_node0_call4_cut_j35 }
+    ensures safe { StaysSafe stop_at_node0_call4_cut_j35 }
+{}

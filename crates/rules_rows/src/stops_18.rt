@@ -1,0 +1,11 @@
+//! Worked schedules: stops 18.
+
+ghost use Rattle.rules_rows.specs.Schedules.{ReadsAs, Prints, StaysSafe};
+ghost use Rattle.rules_rows.specs.Stops18.{stop_at_node1_call1_force_j35};
+
+/// Stop at node1 call1 force j35.
+pub fn row_of_stop_at_node1_call1_force_j35()
+    ensures read { ReadsAs stop_at_node1_call1_force_j35 }
+    ensures printed { Prints stop_at_node1_call1_force_j35 }
+    ensures safe { StaysSafe stop_at_node1_call1_force_j35 }
+{}

@@ -1,0 +1,11 @@
+//! Worked schedules: stops 2.
+
+ghost use Rattle.rules_rows.specs.Schedules.{ReadsAs, Prints, StaysSafe};
+ghost use Rattle.rules_rows.specs.Stops2.{stop_at_node0_call1_force_j0};
+
+/// Stop at node0 call1 force j0.
+pub fn row_of_stop_at_node0_call1_force_j0()
+    ensures read { ReadsAs stop_at_node0_call1_force_j0 }
+    ensures printed { Prints stop_at_node0_call1_force_j0 }
+    ensures safe { StaysSafe stop_at_node0_call1_force_j0 }
+{}

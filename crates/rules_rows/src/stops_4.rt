@@ -1,0 +1,11 @@
+//! Worked schedules: stops 4.
+
+ghost use Rattle.rules_rows.specs.Schedules.{ReadsAs, Prints, StaysSafe};
+ghost use Rattle.rules_rows.specs.Stops4.{stop_at_node0_call1_force_j36};
+
+/// Stop at node0 call1 force j36.
+pub fn row_of_stop_at_node0_call1_force_j36()
+    ensures read { ReadsAs stop_at_node0_call1_force_j36 }
+    ensures printed { Prints stop_at_node0_call1_force_j36 }
+    ensures safe { StaysSafe stop_at_node0_call1_force_j36 }
+{}
