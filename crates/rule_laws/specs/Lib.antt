@@ -1,0 +1,4 @@
+pub mod Settling
+pub mod LaterViews
+pub mod Compatible
+pub mod OneMeaning
