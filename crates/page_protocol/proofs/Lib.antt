@@ -1,0 +1,16 @@
+pub mod Basics
+pub mod LocksOne
+pub mod LocksTables
+pub mod LocksEras
+pub mod GrantsKept
+pub mod EntryKept
+pub mod AccessesKept
+pub mod KeepsHomes
+pub mod KeepsCommits
+pub mod KeepsAuthority
+pub mod KeepsEras
+pub mod KeepsStorage
+pub mod Keeps
+pub mod Promises
+pub mod RowRuns
+pub mod MoreRuns

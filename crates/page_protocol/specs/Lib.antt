@@ -1,0 +1,11 @@
+pub mod Bytes
+pub mod State
+pub mod Homes
+pub mod Authority
+pub mod Eras
+pub mod Storage
+pub mod Steps
+pub mod Invariant
+pub mod Laws
+pub mod Rows
+pub mod MoreRows
