@@ -1,0 +1,2 @@
+pub mod ShelfView
+pub mod Seen
