@@ -1,0 +1,4 @@
+pub mod Disk
+pub mod Causes
+pub mod Stops
+pub mod Memory
