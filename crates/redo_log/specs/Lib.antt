@@ -1,0 +1,3 @@
+pub mod Small
+pub mod Stopping
+pub mod Scan
