@@ -1,0 +1,9 @@
+pub mod SingleRun
+pub mod NodeView
+pub mod Due
+pub mod TracedRun
+pub mod ReaderView
+pub mod Outcome
+pub mod Wrote
+pub mod SingleRows
+pub mod RunOfInput
