@@ -1,4 +1,4 @@
-ghost use Rattle.std.specs.Prelude.{ℕ, List, Option, None};
+ghost use Rattle.std.specs.Prelude.{◌≡◌, ℕ, List, Option, None};
 
 use pcl_base::{Failed, Sink};
 use std::io;
@@ -14,7 +14,9 @@ pub struct StdSink<'a, P: Print> {
 
 impl<'a, P: Print> StdSink<'a, P> {
     /// Standard output over the runtime, with the count 0.
-    pub fn new(rt: &'a P) -> StdSink<'a, P> {
+    pub fn new(rt: &'a P) -> StdSink<'a, P>
+        ensures { result.faults ≡ 0 }
+    {
         StdSink { rt, faults: 0 }
     }
 }

@@ -1,4 +1,4 @@
-ghost use Rattle.std.specs.Prelude.{ℕ, List, Option, None};
+ghost use Rattle.std.specs.Prelude.{◌≡◌, ℕ, List, Option, None};
 
 use pcl_base::{Failed, Source};
 use std::io::{Input, Read};
@@ -12,7 +12,9 @@ pub struct StdSource<I: Input> {
 
 impl<I: Input> StdSource<I> {
     /// Standard input over the runtime, with the count 0.
-    pub fn new(rt: &I) -> StdSource<I> {
+    pub fn new(rt: &I) -> StdSource<I>
+        ensures { result.faults ≡ 0 }
+    {
         StdSource {
             reader: rt.reader(),
             faults: 0,
