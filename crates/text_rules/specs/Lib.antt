@@ -7,6 +7,7 @@ pub mod ReadMessage
 pub mod ByteRows
 pub mod ScheduleLine
 pub mod ReadLine
+pub mod ReadEvent
 pub mod TraceText
 pub mod LineRows
 pub mod Totals

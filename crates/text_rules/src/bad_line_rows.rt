@@ -2,12 +2,21 @@ ghost use Rattle.std.specs.Prelude.{◌≡◌, ◌∷◌, [], map, codes, true, 
 ghost use Rattle.text_rules.specs.BadLine.{bad_at, event_forms, header_forms, bad_text, bad_header_text};
 ghost use Rattle.text_rules.specs.BadLine.Why.{Byte, Short, Cut};
 ghost use Rattle.text_rules.specs.BadLineRows.{good_lines, bad_lines};
+ghost use Rattle.text_rules.specs.ReadEvent.{event_of};
+ghost use Rattle.text_rules.specs.ScheduleLine.{line_of};
+ghost use Rattle.std.specs.Option.{option_map};
 ghost use Rattle.pcl_base.specs.declared.config.ConfigFault.TheVariants.{BadSize};
 
 /// Lines of every word that are lines, and those that aren't, with column and reason.
 pub fn row_of_event_lines()
     ensures good { map (λ line. bad_at true event_forms line) good_lines ≡ map (λ line. None) good_lines }
     ensures bad { map (λ r. bad_at true event_forms r.line) bad_lines ≡ map (λ r. Some (r.column, r.why)) bad_lines }
+{}
+
+/// The same lines, read: a good line gives an event whose line it is, and a bad one gives none.
+pub fn row_of_read_lines()
+    ensures good { map (λ line. option_map line_of (event_of line)) good_lines ≡ map (λ line. Some line) good_lines }
+    ensures bad { map (λ r. event_of r.line) bad_lines ≡ map (λ r. None) bad_lines }
 {}
 
 /// A last line without a newline.

@@ -1,0 +1,10 @@
+use Rattle.std.proofs.Common.{refl}
+use Rattle.std.specs.Fmt.{digits}
+use Rattle.hex.specs.Hex.{encode_with, decode_pairs}
+use Rattle.text_rules.specs.ReadLine.{number_at, spaced_at, pointed_at, tx_at, bytes_of, begin_of, read_of, write_of, commit_of}
+use Rattle.text_rules.specs.ReadEvent.{flags_at, more_owners, owners_of, abort_of, deliver_of, evict_of, flush_of, crash_of, view_of, install_of, reopen_of, arm_of, cut_of, event_of}
+use Rattle.text_rules.proofs.bad_line_rows.row_of_read_lines.Goals as goal
+
+pub returns : goal.returns
+unfolding digits encode_with decode_pairs number_at spaced_at pointed_at tx_at bytes_of begin_of read_of write_of commit_of flags_at more_owners owners_of abort_of deliver_of evict_of flush_of crash_of view_of install_of reopen_of arm_of cut_of event_of
+returns c = record { good = refl; bad = refl }
