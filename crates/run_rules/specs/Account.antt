@@ -14,7 +14,7 @@ use Rattle.pcl_base.specs.declared.trace.Sent.{Sent}
 use Rattle.run_rules.specs.Words.{pick}
 use Rattle.run_rules.specs.Ledger.{Ledger, first_ledger, view_at, is_up, link_at, put_link, actor, lose}
 use Rattle.run_rules.specs.Taking.{From, taken_of, without_head, made_view, own_write, hear, halt_point, take_if}
-use Rattle.run_rules.specs.Causes.{Sending, before_sends, with_ledger, request, grant, release, revoke, answer, report}
+use Rattle.run_rules.specs.Causes.{Sending, before_sends, with_ledger, request, grant, release, revoke, still_wait, answer, report}
 
 -- the cause of a message by its kind
 abbrev pub cause : Entry → Option From → ℕ → ℕ → Note → Sending → Option Sending
@@ -51,9 +51,9 @@ abbrev pub and_then : Option Sending → (Sending → Option Sending) → Option
 and_then None further = None
 and_then (Some s) further = further s
 
--- each send of an entry has its cause
+-- each send of an entry has its cause, and the writers for whom rights were asked back wait at its end
 unfoldable pub all_sends : Entry → Option From → Option ℕ → List Sent → Sending → Option Sending
-all_sends e f n [] s = Some s
+all_sends e f n [] s = still_wait n s
 all_sends e f n (x ∷ xs) s = and_then (one_send e f n x s) (all_sends e f n xs)
 
 -- a crash or a halt

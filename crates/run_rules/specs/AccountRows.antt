@@ -1,15 +1,17 @@
 -- Disks and traces for computed rows of redo, durable and the account.
-use Rattle.std.specs.Prelude.{ℕ, Bool, List, [], ◌∷◌, None}
+use Rattle.std.specs.Prelude.{ℕ, Bool, false, List, [], ◌∷◌, None}
+use Rattle.pcl_base.specs.declared.event.Event.{Event}
 use Rattle.pcl_base.specs.declared.event.Event.TheVariants as event
 use Rattle.pcl_base.specs.declared.log.Part.{Part}
 use Rattle.pcl_base.specs.declared.log.Part.TheVariants.{Ranges}
 use Rattle.pcl_base.specs.declared.log.Record.{Record}
+use Rattle.pcl_base.specs.declared.reply.Reply.{Reply}
 use Rattle.pcl_base.specs.declared.reply.Reply.TheVariants as reply
 use Rattle.pcl_base.specs.declared.trace.CopyKind.TheVariants.{OnDisk}
 use Rattle.pcl_base.specs.declared.trace.Entry.{Entry}
 use Rattle.pcl_base.specs.declared.trace.Note.TheVariants as note
 use Rattle.pcl_base.specs.declared.trace.Sent.{Sent}
-use Rattle.pcl_base.specs.declared.tx.Mode.TheVariants.{Shared}
+use Rattle.pcl_base.specs.declared.tx.Mode.TheVariants.{Shared, Exclusive}
 use Rattle.text_rules.specs.LogRecord.{record_bytes}
 use Rattle.text_rules.specs.StoredPage.{PageAt}
 use Rattle.run_rules.specs.Disk.{Disk, fresh_disk}
@@ -87,3 +89,19 @@ returned = sent 0 1 (note.Return 1 (tx 0 1 ∷ []))
 -- the taken revocation with its messages
 abbrev pub answers : List Sent → List Entry
 answers ms = entry (event.Deliver 1 0) (reply.Taken ∷ []) ms ∷ []
+
+-- a second transaction of node 0 asks to write page 1, and node 1 sends messages
+abbrev pub asks_to_write : List Sent → List Entry
+asks_to_write ms =
+    entry (event.Begin 0) (reply.Begun (tx 0 2) ∷ []) []
+    ∷ entry (event.Write (tx 0 2) 1 0 (7 ∷ [])) (reply.Waits (tx 0 2) 1 ∷ []) (sent 0 1 (note.Request (tx 0 2) 1 Exclusive None) ∷ [])
+    ∷ entry (event.Deliver 0 1) (reply.Taken ∷ []) ms
+    ∷ []
+
+-- its grant
+abbrev pub granted_to_write : Sent
+granted_to_write = sent 1 0 (note.Grant (tx 0 2) 1 Exclusive false 0 OnDisk)
+
+-- an entry in which that transaction is said to end, and its release is sent
+abbrev pub ends_as : Event → Reply → List Entry
+ends_as e r = entry e (r ∷ []) (released ∷ []) ∷ []

@@ -1,6 +1,6 @@
 -- The cause of each kind of message, and that each cause is used once.
 use Rattle.std.specs.Prelude.{ℕ, ◌%◌, ◌==◌, ◌&&◌, ◌||◌, not, Bool, true, false, List, [], ◌∷◌, ◌++◌, map, slice_index, Option, Some, None}
-use Rattle.std.specs.List.{filter, list_any}
+use Rattle.std.specs.List.{filter, list_any, list_all}
 use Rattle.pcl_base.specs.declared.tx.TxId.{TxId}
 use Rattle.pcl_base.specs.declared.tx.Mode.{Mode}
 use Rattle.pcl_base.specs.declared.tx.Mode.TheVariants.{Shared, Exclusive}
@@ -16,7 +16,7 @@ use Rattle.pcl_base.specs.declared.trace.Note.TheVariants as note
 use Rattle.run_rules.specs.Words.{pick, same_tx}
 use Rattle.run_rules.specs.Views.{View, is_live, owner_of, since_of, born_of}
 use Rattle.run_rules.specs.Ledger.{Ledger, Want, Of, Out, is_exclusive, is_of, is_want, wants_page, is_out, view_at, wanted_at, rights_at, installed_at, put_wanted, put_rights}
-use Rattle.run_rules.specs.Taking.{From, is_waiting, want_of, ends}
+use Rattle.run_rules.specs.Taking.{From, is_waiting, want_of, commits, aborts}
 
 -- the partition of a page, and the owner of a page in the view of a node
 abbrev pub partition : Ledger → ℕ → ℕ
@@ -51,16 +51,18 @@ abbrev pub writer_waits : Ledger → ℕ → ℕ → Bool
 writer_waits l n p =
     list_any (own_waits l n p) l.writing || list_any (other_waits l n p) (wanted_at l n)
 
--- the causes of sends in one entry: the ledger as it changes, and what was sent but once
+-- the causes of sends in one entry: the ledger as it changes, what was sent but once, and the pages
+-- whose rights were asked back
 pub record Sending : Type 0 where
   pub ledger : Ledger
   pub requested : Bool
   pub returned : Bool
   pub reported : List ℕ
+  pub revoked : List ℕ
 
 -- before the first send of an entry nothing was sent
 abbrev pub before_sends : Ledger → Sending
-before_sends l = record { ledger = l; requested = false; returned = false; reported = [] }
+before_sends l = record { ledger = l; requested = false; returned = false; reported = []; revoked = [] }
 
 -- x where there is a cause
 abbrev pub because : Bool → Sending → Option Sending
@@ -113,15 +115,10 @@ grant n to t p m right s =
 
 -- a release: of a transaction that ends here with a request that isn't answered or a registered
 -- lock; it brings the version that the commit made of a page that was written
-abbrev pub is_end : TxId → Reply → Bool
-is_end t (reply.Committed u) = same_tx u t
-is_end t (reply.Aborted u) = same_tx u t
-is_end t _ = false
-
--- whether an event is a commit
-abbrev pub commits : Event → Bool
-commits (event.Commit u) = true
-commits _ = false
+abbrev pub is_end : Event → TxId → Reply → Bool
+is_end e t (reply.Committed u) = commits e t && same_tx u t
+is_end e t (reply.Aborted u) = aborts e t && same_tx u t
+is_end e t _ = false
 
 -- whether a change is there exactly where it has to be, at that version
 abbrev pub is_change : Bool → ℕ → Option ℕ → Bool
@@ -134,26 +131,32 @@ is_change false v (Some w) = false
 abbrev pub release : Entry → ℕ → ℕ → TxId → ℕ → Option ℕ → Sending → Option Sending
 release e n to t p change s =
     because
-    ((ends e.event t && list_any (is_end t) e.replies)
+    (list_any (is_end e.event t) e.replies
     && (owner_for s.ledger n p == to
     && ((list_any (wants_page t p) s.ledger.asked || list_any (is_of t p) s.ledger.registered)
     && (not (list_any (is_of t p) s.ledger.released)
-    && is_change (commits e.event && list_any (is_of t p) s.ledger.done) (slice_index s.ledger.versions p)
+    && is_change (commits e.event t && list_any (is_of t p) s.ledger.done) (slice_index s.ledger.versions p)
     change))))
     (with_ledger s (record (s.ledger) { released = s.ledger.released ++ record { tx = t; page = p } ∷ [] }))
 
--- a revocation: of a right that is out, while an exclusive access waits
+-- a revocation: of a right that is out, and once a right
 abbrev pub may_revoke : ℕ → ℕ → Out → Bool
 may_revoke to p r = is_out to p r && not r.revoked
 
--- a revocation, once a right
+-- the ledger once that right is asked back
+abbrev pub asked_back : ℕ → ℕ → ℕ → Ledger → Ledger
+asked_back n to p l =
+    put_rights n (change_first (may_revoke to p) (λ r. record r { revoked = true }) (rights_at l n)) l
+
 abbrev pub revoke : ℕ → ℕ → ℕ → Sending → Option Sending
 revoke n to p s =
-    because
-    (holds s.ledger n p && (writer_waits s.ledger n p && list_any (may_revoke to p) (rights_at s.ledger n)))
-    (with_ledger s
-    (put_rights n (change_first (may_revoke to p) (λ r. record r { revoked = true }) (rights_at s.ledger n))
-    s.ledger))
+    because (holds s.ledger n p && list_any (may_revoke to p) (rights_at s.ledger n))
+    (record s { ledger = asked_back n to p s.ledger; revoked = p ∷ s.revoked })
+
+-- when the entry ends, an exclusive access of each page whose right was asked back still waits
+abbrev pub still_wait : Option ℕ → Sending → Option Sending
+still_wait None s = Some s
+still_wait (Some n) s = because (list_all (writer_waits s.ledger n) s.revoked) s
 
 -- an answer: to the revocation that the entry took; the readers that it names are registered
 abbrev pub is_revoke : Note → ℕ → Bool
@@ -179,6 +182,10 @@ answer f n to p readers s =
     })
 
 -- a report: of a partition that got its owner in the view that the entry installed
+abbrev pub is_install : Event → Bool
+is_install (event.Install n) = true
+is_install _ = false
+
 abbrev pub is_installed : ℕ → Reply → Bool
 is_installed e (reply.Installed f) = f == e
 is_installed e _ = false
@@ -191,7 +198,7 @@ lock_of x = record { tx = x.tx; page = x.page }
 abbrev pub report : Entry → ℕ → ℕ → ℕ → List ReportWait → List ReportLock → Sending → Option Sending
 report e n to q waits locks s =
     because
-    (list_any (is_installed (view_at s.ledger n).epoch) e.replies
+    ((is_install e.event && list_any (is_installed (view_at s.ledger n).epoch) e.replies)
     && ((since_of (view_at s.ledger n) q == (view_at s.ledger n).epoch && owner_of (view_at s.ledger n) q == to)
     && not (list_any (λ r. r == q) s.reported)))
     (record s {

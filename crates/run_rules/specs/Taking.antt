@@ -105,23 +105,36 @@ abbrev pub install_epoch : Option ℕ → ℕ → Ledger → Ledger
 install_epoch None e l = l
 install_epoch (Some n) e l = install n (view_of_epoch (first l.config) l.views e) l
 
--- the commit or abort of a transaction
-abbrev pub ends : Event → TxId → Bool
-ends (event.Commit u) t = same_tx u t
-ends (event.Abort u) t = same_tx u t
-ends _ t = false
-
 -- a transaction's accesses end with its commit or abort alone
-abbrev pub ended_by : Event → TxId → Ledger → Ledger
-ended_by e t l = pick (ends e t) (waits_no_more t l) l
+abbrev pub commits : Event → TxId → Bool
+commits (event.Commit u) t = same_tx u t
+commits _ t = false
+
+-- the abort of a transaction
+abbrev pub aborts : Event → TxId → Bool
+aborts (event.Abort u) t = same_tx u t
+aborts _ t = false
+
+-- the end of a transaction, where the event is that end
+abbrev pub ended_if : Bool → TxId → Ledger → Ledger
+ended_if ends t l = pick ends (waits_no_more t l) l
+
+-- an install and a reopening tell of themselves alone
+abbrev pub install_by : Event → Option ℕ → ℕ → Ledger → Ledger
+install_by (event.Install m) n e l = install_epoch n e l
+install_by _ n e l = l
+
+abbrev pub reopen_by : Event → Ledger → Ledger
+reopen_by event.Reopen l = add_view (λ v. all_nodes l) (reopen l.config (last_view l)) l
+reopen_by _ l = l
 
 -- what one reply to an event tells
 unfoldable pub hear : Event → Option ℕ → Ledger → Reply → Ledger
 hear e n l (reply.Done t p v) = wrote t p l
-hear e n l (reply.Committed t) = ended_by e t (commit_point t l)
-hear e n l (reply.Aborted t) = ended_by e t l
-hear e n l (reply.Installed epoch) = install_epoch n epoch l
-hear e n l (reply.Reopened epoch) = add_view (λ v. all_nodes l) (reopen l.config (last_view l)) l
+hear e n l (reply.Committed t) = ended_if (commits e t) t (commit_point t l)
+hear e n l (reply.Aborted t) = ended_if (aborts e t) t l
+hear e n l (reply.Installed epoch) = install_by e n epoch l
+hear e n l (reply.Reopened epoch) = reopen_by e l
 hear e n l _ = l
 
 -- a halt that kept a record is a commit point

@@ -7,7 +7,10 @@ ghost use Rattle.run_rules.specs.Disk.{fresh_disk};
 ghost use Rattle.run_rules.specs.Durable.{durable_fault};
 ghost use Rattle.run_rules.specs.Examples.{one_page, two_nodes, plain_path, image_with_release, written_page};
 ghost use Rattle.run_rules.specs.Redo.{redone, greatest, redo};
-ghost use Rattle.run_rules.specs.AccountRows.{at_version, changed, one_byte, one_record, other_log, asks, granted, grants, reads, released, ends, begins, revoked, writes, returned, answers};
+ghost use Rattle.run_rules.specs.AccountRows.{at_version, changed, one_byte, one_record, other_log, asks, granted, grants, reads, released, ends, begins, revoked, writes, returned, answers, asks_to_write, granted_to_write, ends_as};
+ghost use Rattle.run_rules.specs.Examples.{tx};
+ghost use Rattle.pcl_base.specs.declared.event.Event.TheVariants.{Commit, Abort};
+ghost use Rattle.pcl_base.specs.declared.reply.Reply.TheVariants.{Committed, Aborted};
 
 /// What the logs make of a page.
 pub fn row_of_redo()
@@ -37,5 +40,11 @@ pub fn row_of_account()
     ensures revoke_without_right { account_fault two_nodes (asks ++ grants (granted false ∷ []) ++ reads ++ begins [] ++ writes (revoked ∷ [])) ≡ Some 6 }
     ensures revoke_twice { account_fault two_nodes (asks ++ grants (granted true ∷ []) ++ reads ++ begins [] ++ writes (revoked ∷ revoked ∷ [])) ≡ Some 6 }
     ensures answer_twice { account_fault two_nodes (asks ++ grants (granted true ∷ []) ++ reads ++ begins [] ++ writes (revoked ∷ []) ++ answers (returned ∷ returned ∷ [])) ≡ Some 7 }
+    ensures revoke_for_another { account_fault two_nodes (asks ++ grants (granted true ∷ []) ++ reads ++ asks_to_write (revoked ∷ [])) ≡ None }
+    ensures revoke_and_grant { account_fault two_nodes (asks ++ grants (granted true ∷ []) ++ reads ++ asks_to_write (revoked ∷ granted_to_write ∷ [])) ≡ Some 7 }
+    ensures commit_as_commit { account_fault two_nodes (asks ++ ends_as (Commit (tx 0 1)) (Committed (tx 0 1))) ≡ None }
+    ensures abort_as_abort { account_fault two_nodes (asks ++ ends_as (Abort (tx 0 1)) (Aborted (tx 0 1))) ≡ None }
+    ensures commit_as_abort { account_fault two_nodes (asks ++ ends_as (Commit (tx 0 1)) (Aborted (tx 0 1))) ≡ Some 3 }
+    ensures abort_as_commit { account_fault two_nodes (asks ++ ends_as (Abort (tx 0 1)) (Committed (tx 0 1))) ≡ Some 3 }
     ensures answer_unasked { account_fault two_nodes (asks ++ grants (granted true ∷ []) ++ reads ++ ends (returned ∷ [])) ≡ Some 5 }
 {}

@@ -18,5 +18,11 @@ returns c =
       revoke_without_right = refl;
       revoke_twice = refl;
       answer_twice = refl;
+      revoke_for_another = refl;
+      revoke_and_grant = refl;
+      commit_as_commit = refl;
+      abort_as_abort = refl;
+      commit_as_abort = refl;
+      abort_as_commit = refl;
       answer_unasked = refl;
     }
