@@ -40,3 +40,6 @@ pub mod Stops20
 pub mod Stops21
 pub mod Stops22
 pub mod Stops23
+pub mod Altered
+pub mod BadSchedules
+pub mod Generated

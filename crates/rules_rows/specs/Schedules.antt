@@ -1,10 +1,11 @@
 -- Worked schedules: their lines, their events, and the lines of their runs.
-use Rattle.std.specs.Prelude.{◌≡◌, ℕ, List, [], ◌∷◌, ◌++◌, map, None}
+use Rattle.std.specs.Prelude.{◌≡◌, ℕ, List, [], ◌∷◌, ◌++◌, map, None, Some}
 use Rattle.pcl_base.specs.Limits.{Sizes}
 use Rattle.pcl_base.specs.declared.tx.TxId.{TxId}
 use Rattle.pcl_base.specs.declared.event.Event.{Event}
 use Rattle.pcl_base.specs.declared.event.Header.{Header}
 use Rattle.text_rules.specs.ScheduleLine.{header_line, line_of}
+use Rattle.text_rules.specs.ReadEvent.{schedule_of}
 use Rattle.text_rules.specs.TraceText.{trace_text}
 use Rattle.cluster_rules.specs.Run.{last, run}
 use Rattle.cluster_rules.specs.Safe.{first_unsafe}
@@ -34,9 +35,10 @@ header_of_sizes c = record { nodes = c.nodes; pages = c.pages; size = c.size; fr
 abbrev pub lines_of : Sizes → List Event → List (List ℕ)
 lines_of c es = header_line (header_of_sizes c) ∷ map line_of es
 
--- the input is the lines of these events
-abbrev pub ReadsAs : Row → Type 0
-ReadsAs r = lines_of r.sizes r.events ≡ r.input
+-- the input is read as these events, and is their lines
+pub record ReadsAs (r : Row) : Type 0 where
+  pub read : schedule_of r.input ≡ Some (header_of_sizes r.sizes, r.events)
+  pub lines : lines_of r.sizes r.events ≡ r.input
 
 -- the text of the run is the output
 abbrev pub Prints : Row → Type 0

@@ -3,12 +3,15 @@
 //! Worked schedules, run by the rules: the text of each run is the text that stands beside it. The
 //! checker computes every row, so these functions have no bodies.
 
+mod altered;
+mod bad_schedules;
 mod buffers_1;
 mod buffers_2;
 mod failures_1;
 mod failures_2;
 mod failures_3;
 mod failures_4;
+mod generated;
 mod paths_1;
 mod paths_2;
 mod paths_3;

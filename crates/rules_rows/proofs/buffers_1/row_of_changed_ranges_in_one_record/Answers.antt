@@ -4,4 +4,4 @@ use Rattle.rules_rows.proofs.buffers_1.row_of_changed_ranges_in_one_record.Goals
 
 pub returns : goal.returns
 unfolding all_rules
-returns c = record { read = refl; printed = refl; safe = refl }
+returns c = record { read = record { read = refl; lines = refl }; printed = refl; safe = refl }

@@ -4,4 +4,4 @@ use Rattle.rules_rows.proofs.failures_2.row_of_late_and_early_messages_e_new_own
 
 pub returns : goal.returns
 unfolding all_rules
-returns c = record { read = refl; printed = refl; safe = refl }
+returns c = record { read = record { read = refl; lines = refl }; printed = refl; safe = refl }

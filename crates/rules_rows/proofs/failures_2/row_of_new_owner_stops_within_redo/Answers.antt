@@ -4,4 +4,4 @@ use Rattle.rules_rows.proofs.failures_2.row_of_new_owner_stops_within_redo.Goals
 
 pub returns : goal.returns
 unfolding all_rules
-returns c = record { read = refl; printed = refl; safe = refl }
+returns c = record { read = record { read = refl; lines = refl }; printed = refl; safe = refl }

@@ -4,4 +4,4 @@ use Rattle.rules_rows.proofs.failures_4.row_of_survivor_commits_before_report.Go
 
 pub returns : goal.returns
 unfolding all_rules
-returns c = record { read = refl; printed = refl; safe = refl }
+returns c = record { read = record { read = refl; lines = refl }; printed = refl; safe = refl }

@@ -4,4 +4,4 @@ use Rattle.rules_rows.proofs.paths_1.row_of_first_message_path.Goals as goal
 
 pub returns : goal.returns
 unfolding all_rules
-returns c = record { read = refl; printed = refl; safe = refl }
+returns c = record { read = record { read = refl; lines = refl }; printed = refl; safe = refl }

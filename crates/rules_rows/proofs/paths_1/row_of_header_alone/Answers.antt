@@ -4,4 +4,4 @@ use Rattle.rules_rows.proofs.paths_1.row_of_header_alone.Goals as goal
 
 pub returns : goal.returns
 unfolding all_rules
-returns c = record { read = refl; printed = refl; safe = refl }
+returns c = record { read = record { read = refl; lines = refl }; printed = refl; safe = refl }

@@ -4,4 +4,4 @@ use Rattle.rules_rows.proofs.paths_2.row_of_stale_then_current_copy.Goals as goa
 
 pub returns : goal.returns
 unfolding all_rules
-returns c = record { read = refl; printed = refl; safe = refl }
+returns c = record { read = record { read = refl; lines = refl }; printed = refl; safe = refl }

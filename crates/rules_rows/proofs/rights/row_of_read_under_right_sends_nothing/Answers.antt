@@ -4,4 +4,4 @@ use Rattle.rules_rows.proofs.rights.row_of_read_under_right_sends_nothing.Goals 
 
 pub returns : goal.returns
 unfolding all_rules
-returns c = record { read = refl; printed = refl; safe = refl }
+returns c = record { read = record { read = refl; lines = refl }; printed = refl; safe = refl }

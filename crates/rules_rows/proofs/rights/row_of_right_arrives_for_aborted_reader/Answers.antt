@@ -4,4 +4,4 @@ use Rattle.rules_rows.proofs.rights.row_of_right_arrives_for_aborted_reader.Goal
 
 pub returns : goal.returns
 unfolding all_rules
-returns c = record { read = refl; printed = refl; safe = refl }
+returns c = record { read = record { read = refl; lines = refl }; printed = refl; safe = refl }

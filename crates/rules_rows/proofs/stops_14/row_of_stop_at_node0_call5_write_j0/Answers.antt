@@ -4,4 +4,4 @@ use Rattle.rules_rows.proofs.stops_14.row_of_stop_at_node0_call5_write_j0.Goals 
 
 pub returns : goal.returns
 unfolding all_rules
-returns c = record { read = refl; printed = refl; safe = refl }
+returns c = record { read = record { read = refl; lines = refl }; printed = refl; safe = refl }

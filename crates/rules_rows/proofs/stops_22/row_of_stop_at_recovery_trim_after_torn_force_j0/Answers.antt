@@ -4,4 +4,4 @@ use Rattle.rules_rows.proofs.stops_22.row_of_stop_at_recovery_trim_after_torn_fo
 
 pub returns : goal.returns
 unfolding all_rules
-returns c = record { read = refl; printed = refl; safe = refl }
+returns c = record { read = record { read = refl; lines = refl }; printed = refl; safe = refl }

@@ -4,4 +4,4 @@ use Rattle.rules_rows.proofs.stops_5.row_of_stop_at_node0_call2_write_j0.Goals a
 
 pub returns : goal.returns
 unfolding all_rules
-returns c = record { read = refl; printed = refl; safe = refl }
+returns c = record { read = record { read = refl; lines = refl }; printed = refl; safe = refl }

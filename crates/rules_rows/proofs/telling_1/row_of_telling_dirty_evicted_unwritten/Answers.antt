@@ -4,4 +4,4 @@ use Rattle.rules_rows.proofs.telling_1.row_of_telling_dirty_evicted_unwritten.Go
 
 pub returns : goal.returns
 unfolding all_rules
-returns c = record { read = refl; printed = refl; safe = refl }
+returns c = record { read = record { read = refl; lines = refl }; printed = refl; safe = refl }

@@ -4,4 +4,4 @@ use Rattle.rules_rows.proofs.telling_2.row_of_telling_exclusive_with_revocation.
 
 pub returns : goal.returns
 unfolding all_rules
-returns c = record { read = refl; printed = refl; safe = refl }
+returns c = record { read = record { read = refl; lines = refl }; printed = refl; safe = refl }

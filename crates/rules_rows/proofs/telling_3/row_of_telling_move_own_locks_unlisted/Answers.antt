@@ -4,4 +4,4 @@ use Rattle.rules_rows.proofs.telling_3.row_of_telling_move_own_locks_unlisted.Go
 
 pub returns : goal.returns
 unfolding all_rules
-returns c = record { read = refl; printed = refl; safe = refl }
+returns c = record { read = record { read = refl; lines = refl }; printed = refl; safe = refl }

@@ -4,4 +4,4 @@ use Rattle.rules_rows.proofs.telling_5.row_of_telling_own_report_without_right_r
 
 pub returns : goal.returns
 unfolding all_rules
-returns c = record { read = refl; printed = refl; safe = refl }
+returns c = record { read = record { read = refl; lines = refl }; printed = refl; safe = refl }

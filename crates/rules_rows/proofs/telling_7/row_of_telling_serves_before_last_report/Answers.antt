@@ -4,4 +4,4 @@ use Rattle.rules_rows.proofs.telling_7.row_of_telling_serves_before_last_report.
 
 pub returns : goal.returns
 unfolding all_rules
-returns c = record { read = refl; printed = refl; safe = refl }
+returns c = record { read = record { read = refl; lines = refl }; printed = refl; safe = refl }

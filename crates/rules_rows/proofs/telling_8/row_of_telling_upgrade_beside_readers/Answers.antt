@@ -4,4 +4,4 @@ use Rattle.rules_rows.proofs.telling_8.row_of_telling_upgrade_beside_readers.Goa
 
 pub returns : goal.returns
 unfolding all_rules
-returns c = record { read = refl; printed = refl; safe = refl }
+returns c = record { read = record { read = refl; lines = refl }; printed = refl; safe = refl }
