@@ -1,2 +1,2 @@
-mod Digits
-mod Printed
+pub mod OwnersText
+pub mod Faults

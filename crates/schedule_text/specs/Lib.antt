@@ -1,2 +1,3 @@
 pub mod Seen
-pub mod FourWords
+pub mod LineAnswer
+pub mod Pieces

@@ -1,5 +1,4 @@
-ghost use Rattle.std.specs.Prelude.{◌≡◌, ◌==◌, ◌&&◌, length, slice_index, IfOk, IfSome};
-ghost use Rattle.text_rules.specs.ScheduleLine.{bytes_text};
+ghost use Rattle.std.specs.Prelude.{◌≡◌, ◌==◌, ◌&&◌, length, slice_index, IfOk};
 ghost use Rattle.std.specs.List.{list_all};
 ghost use Rattle.text_rules.specs.ReadLine.{bytes_of as bytes_spec, pairs_of as pairs_spec, are_digits as are_digits_spec, is_hex_digit as is_hex_digit_spec};
 
@@ -11,7 +10,6 @@ use std::alloc::Global;
 #[tactic(auto, unfolding(text_rules::specs::ReadLine::bytes_of))]
 pub(crate) fn bytes_of(alloc: Global, text: &[u8]) -> Result<Option<Page>, NoMemory>
     ensures value { IfOk result (λ o. o ≡ bytes_spec text.now) }
-    ensures printed { IfOk result (λ o. IfSome o (λ bytes. bytes_text bytes ≡ text.now)) }
 {
     if is_none(text) {
         return Ok(Some(Items::new(alloc)));
@@ -29,7 +27,6 @@ fn is_none(text: &[u8]) -> bool
 /// Bytes as 1 to 4,096 pairs of digits in lower case.
 fn pairs_of(alloc: Global, text: &[u8]) -> Result<Option<Page>, NoMemory>
     ensures value { IfOk result (λ o. o ≡ pairs_spec text.now) }
-    ensures printed { IfOk result (λ o. IfSome o (λ bytes. bytes_text bytes ≡ text.now)) }
 {
     if !are_digits(text) {
         return Ok(None);
@@ -55,7 +52,7 @@ fn all_digits(text: &[u8]) -> bool
 }
 
 /// Whether the byte is a digit of bytes; those in upper case are none.
-fn is_hex_digit(byte: u8) -> bool
+pub(crate) fn is_hex_digit(byte: u8) -> bool
     ensures { result ≡ is_hex_digit_spec byte }
 {
     matches!(byte, b'0'..=b'9' | b'a'..=b'f')

@@ -1,6 +1,4 @@
-ghost use Rattle.std.specs.Prelude.{◌≡◌, ◌≤◌, ◌++◌, codes, length, IfSome};
-ghost use Rattle.std.specs.Fmt.{decimal};
-ghost use Rattle.text_rules.specs.ScheduleLine.{spaced, tx_text};
+ghost use Rattle.std.specs.Prelude.{◌≡◌, ◌≤◌, length, IfSome};
 ghost use Rattle.std.specs.Option.{option_copied};
 ghost use Rattle.std.specs.List.{prefix_len};
 ghost use Rattle.std.specs.Char.{is_ascii_digit};
@@ -13,7 +11,6 @@ use pcl_base::TxId;
 /// The bytes after a word, where the bytes begin with it.
 pub(crate) fn after_word<'a>(bytes: &'a [u8], word: &[u8]) -> Option<&'a [u8]>
     ensures value { option_copied result ≡ after_word_spec word.now bytes.now }
-    ensures printed { IfSome result (λ rest. bytes.now ≡ word.now ++ rest.now) }
 {
     bytes.strip_prefix(word)
 }
@@ -22,7 +19,6 @@ pub(crate) fn after_word<'a>(bytes: &'a [u8], word: &[u8]) -> Option<&'a [u8]>
 #[tactic(auto, unfolding(text_rules::specs::ReadLine::number_at))]
 pub(crate) fn number_at(bytes: &[u8], low: u32, high: u32) -> Option<(u32, &[u8])>
     ensures value { field result ≡ number_spec low high bytes.now }
-    ensures printed { IfSome result (λ x. bytes.now ≡ decimal x.0 ++ x.1.now) }
     ensures most { IfSome result (λ x. x.0 ≤ high) }
 {
     let (digits, rest) = bytes.split_at(digits_len(bytes));
@@ -34,7 +30,6 @@ pub(crate) fn number_at(bytes: &[u8], low: u32, high: u32) -> Option<(u32, &[u8]
 #[tactic(auto, unfolding(text_rules::specs::ReadLine::spaced_at))]
 pub(crate) fn spaced_at(bytes: &[u8], low: u32, high: u32) -> Option<(u32, &[u8])>
     ensures value { field result ≡ spaced_spec low high bytes.now }
-    ensures printed { IfSome result (λ x. bytes.now ≡ spaced x.0 ++ x.1.now) }
     ensures most { IfSome result (λ x. x.0 ≤ high) }
 {
     number_at(after_word(bytes, b" ")?, low, high)
@@ -44,7 +39,6 @@ pub(crate) fn spaced_at(bytes: &[u8], low: u32, high: u32) -> Option<(u32, &[u8]
 #[tactic(auto, unfolding(text_rules::specs::ReadLine::tx_at))]
 pub(crate) fn tx_at(bytes: &[u8]) -> Option<(TxId, &[u8])>
     ensures value { field result ≡ tx_spec bytes.now }
-    ensures printed { IfSome result (λ x. bytes.now ≡ tx_text x.0 ++ x.1.now) }
 {
     let (node, rest) = number_at(bytes, 0, 15)?;
     let (born, rest) = pointed_at(rest)?;
@@ -63,14 +57,14 @@ pub(crate) fn tx_at(bytes: &[u8]) -> Option<(TxId, &[u8])>
 #[tactic(auto, unfolding(text_rules::specs::ReadLine::pointed_at))]
 fn pointed_at(bytes: &[u8]) -> Option<(u32, &[u8])>
     ensures value { field result ≡ pointed_spec bytes.now }
-    ensures printed { IfSome result (λ x. bytes.now ≡ codes "." ++ decimal x.0 ++ x.1.now) }
 {
     number_at(after_word(bytes, b".")?, 1, u32::MAX)
 }
 
 /// How many digits the bytes begin with.
-fn digits_len(bytes: &[u8]) -> usize
-    ensures { result ≡ prefix_len is_ascii_digit bytes.now }
+pub(crate) fn digits_len(bytes: &[u8]) -> usize
+    ensures value { result ≡ prefix_len is_ascii_digit bytes.now }
+    ensures most { result ≤ length bytes.now }
 {
     bytes.iter().take_while(|b| b.is_ascii_digit()).count()
 }
@@ -80,7 +74,6 @@ fn number_of(digits: &[u8], low: u32, high: u32) -> Option<u32>
     requires { AllDigits 10 digits.now }
     ensures value { result ≡ number_of_spec low high digits.now }
     ensures most { IfSome result (λ n. n ≤ high) }
-    ensures printed { IfSome result (λ n. decimal n ≡ digits.now) }
 {
     if !is_numeral(digits) {
         return None;
@@ -93,14 +86,14 @@ fn number_of(digits: &[u8], low: u32, high: u32) -> Option<u32>
 }
 
 /// Whether there are one to ten digits, and no leading zero.
-fn is_numeral(digits: &[u8]) -> bool
+pub(crate) fn is_numeral(digits: &[u8]) -> bool
     ensures { result ≡ is_numeral_spec digits.now }
 {
     !digits.is_empty() && digits.len() <= 10 && (digits.len() == 1 || digits[0] != b'0')
 }
 
 /// The number that ten digits at most write.
-fn value_of(digits: &[u8]) -> u64
+pub(crate) fn value_of(digits: &[u8]) -> u64
     requires few { length digits.now ≤ 10 }
     requires all { AllDigits 10 digits.now }
     ensures { result ≡ digits_value 10 digits.now }

@@ -2,7 +2,7 @@ use Rattle.std.proofs.Common.{arith}
 use Rattle.std.proofs.lemmas.Str.{digit_value_digit}
 use Rattle.std.proofs.lemmas.Str.Parse.{digits_value-take-le, digit_at}
 use Rattle.std.proofs.lemmas.Int.Digits.{digits_value_more}
-use Rattle.schedule_text.proofs.Digits.{ten_digits}
+use Rattle.line_laws.proofs.Digits.{ten_digits}
 use Rattle.schedule_text.proofs.fields.value_of.Goals as goal
 
 pub overflow_mul-value : goal.overflow_mul-value
