@@ -1,0 +1,5 @@
+pub mod OwnerLemmas
+pub mod LimitLemmas
+pub mod LinkLemmas
+pub mod RestLemmas
+pub mod MachineLemmas

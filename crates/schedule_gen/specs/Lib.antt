@@ -1,0 +1,5 @@
+pub mod Limits
+pub mod Links
+pub mod Owners
+pub mod Rest
+pub mod Machines
