@@ -5,5 +5,5 @@
 mod fault;
 mod stored;
 
-pub use fault::PageFault;
+pub use fault::{PageFault, RedoFault};
 pub use stored::{read, write};
