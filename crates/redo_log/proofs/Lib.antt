@@ -1,2 +1,13 @@
 pub mod WritingLemmas
 pub mod ReadingLemmas
+pub mod PieceLemmas
+pub mod PassingLemmas
+pub mod LengthLemmas
+pub mod LogLemmas
+pub mod StepLemmas
+pub mod PuttingLemmas
+pub mod MoreLemmas
+pub mod ReadableLemmas
+pub mod PlacedLaws
+pub mod Rising
+pub mod SomeChanges

@@ -1,3 +1,10 @@
 pub mod Small
 pub mod Stopping
 pub mod Scan
+pub mod Halting
+pub mod Heads
+pub mod Told
+pub mod Placed
+pub mod Walks
+pub mod Steps
+pub mod Applied

@@ -131,7 +131,7 @@ fn body(alloc: Global, fields: &mut Fields, config: &Config) -> Result<Record, R
 }
 
 /// The node that a mark names.
-fn node_of(mark: u8) -> u8
+pub(crate) fn node_of(mark: u8) -> u8
     ensures { result ≡ node_of_mark mark }
 {
     if mark < 128 { mark } else { mark - 128 }

@@ -1,0 +1,6 @@
+use Rattle.std.proofs.Common.{refl}
+use Rattle.redo_log.proofs.PieceLemmas.{taken_at}
+use Rattle.redo_log.proofs.reader.Reader.taken.Goals as goal
+
+pub returns-clause-value : goal.returns-clause-value
+returns-clause-value g c = λ log reads. taken_at _ _ log c.self.inside.piece _ c.self.inside.count _ c.self.view_is refl reads c.requires.from c.requires.there c.requires.within c.copy_from_slice.ensures.after
