@@ -5,5 +5,7 @@
 mod counts;
 mod files;
 mod store;
+#[cfg(test)]
+mod tests;
 
 pub use store::FileStore;
