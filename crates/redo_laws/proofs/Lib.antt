@@ -1,0 +1,10 @@
+pub mod Chains
+pub mod Images
+pub mod Pages
+pub mod Added
+pub mod Reading
+pub mod Logs
+pub mod Written
+pub mod Disks
+pub mod Changes
+pub mod Greatest
