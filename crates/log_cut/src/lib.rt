@@ -1,0 +1,11 @@
+#![tactic(auto)]
+
+//! How much of a log may be cut from its front: the whole records all of whose pages the disk has
+//! at their versions or later ones.
+
+mod cut;
+#[cfg(test)]
+mod tests;
+
+pub use cut::cuttable;
+pub use page_store::RedoFault;
