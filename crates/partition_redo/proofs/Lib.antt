@@ -1,0 +1,6 @@
+pub mod Walking
+pub mod SeenVersions
+pub mod Noted
+pub mod Indexed
+pub mod Leading
+pub mod Plans

@@ -1,0 +1,192 @@
+ghost use Rattle.std.specs.Prelude.{◌≡◌, ◌≢◌, ℕ, ◌<◌, ◌≤◌, ◌+◌, ◌⊎◌, List, Option, Some, None, All, map, length, OnOk, IfOk, IfErr, slice_index};
+ghost use Rattle.pcl_base.specs.Faults.{Rose};
+ghost use Rattle.pcl_base.specs.declared.trace.Call.{Call as Kind};
+ghost use Rattle.disk_model.specs.Disk.{told_at, IsIn, HasLength, HasSizes};
+ghost use Rattle.run_rules.specs.Disk.{Disk};
+ghost use Rattle.redo_log.specs.Told.{NoneFails};
+ghost use Rattle.partition_redo.specs.declared.fault.RedoFault.TheVariants.{Failed as failed, NoMemory as no_memory};
+ghost use Rattle.partition_redo.specs.Index.{ranges_of};
+ghost use Rattle.partition_redo.specs.Chains.{AreAll, AreChains, IsRedone, IsGiven, IsListed, AnswersStored, NamesOther, NamesFirst, first_bad};
+
+use crate::fault::RedoFault;
+use crate::index::Index;
+use crate::site::Chain;
+use crate::walked::index_logs;
+use disk_model::{Call, Storage};
+use page_store::{PageFault, read};
+use pcl_base::{Config, Items, NoMemory, NodeNo, PageNo, Version};
+use std::alloc::Global;
+use std::marker::Model;
+
+/// What a redo will write, with all the memory for it.
+#[derive(Drop)]
+pub struct Planned {
+    pub(crate) config: Config,
+    pub(crate) by: NodeNo,
+    pub(crate) versions: Vec<(PageNo, Version)>,
+    pub(crate) chains: Items<Chain>,
+    /// A stored page.
+    pub(crate) raw: Vec<u8>,
+}
+
+impl Model for Planned {
+    ghost use Rattle.std.specs.Prelude.{◌≡◌, ◌+◌, length};
+    ghost use Rattle.partition_redo.specs.Chains.{PlannedView};
+
+    ghost Value = { PlannedView };
+
+    ghost view = { λ p. record { config = p.config; by = p.by; versions = p.versions.items; chains = p.chains } };
+
+    ghost invariant = { λ p. length p.raw.items ≡ p.config.size + 16 };
+}
+
+impl Planned {
+    /// What the redo answers: each listed page with its version, in the order given.
+    pub fn versions(&self) -> &[(PageNo, Version)]
+        ensures { result.now ≡ self.now.versions }
+    {
+        self.versions.as_slice()
+    }
+}
+
+/// The version of a stored page, which is read into `raw`.
+fn stored_version<S: Storage>(
+    s: &mut S,
+    by: NodeNo,
+    page: PageNo,
+    raw: &mut [u8],
+) -> Result<Version, RedoFault>
+    requires by { IsIn (S.logs s.old) by }
+    requires page { IsIn (S.pages s.old) page }
+    requires length { HasLength (told_at (S.pages s.old) page) (length raw.old) }
+    requires size { 16 ≤ length raw.old }
+    ensures value { (d : Disk) → S.pages s.old ≡ Some d.pages → AnswersStored d page result }
+    ensures other { IfErr result NamesOther }
+    ensures pages { S.pages s.new ≡ S.pages s.old }
+    ensures logs { S.logs s.new ≡ S.logs s.old }
+    ensures rooms { S.rooms s.new ≡ S.rooms s.old }
+    ensures stops { S.stops s.new ≡ S.stops s.old }
+    ensures calm { (l : List (Option ℕ)) → NoneFails (S.failing s.old) by l → NoneFails (S.failing s.new) by l }
+    ensures quiet { (l : List (Option ℕ)) (k : Kind) → NoneFails (S.failing s.old) by l → IfErr result (λ e. e ≢ failed k) }
+    ensures counts { (k : Kind) → S.faults s.old k ≤ S.faults s.new k }
+    ensures cause { (k : Kind) → IfErr result (λ e. e ≡ failed k → Rose (S.faults s.old k) (S.faults s.new k)) }
+{
+    match read(s, by, page, raw) {
+        Ok(version) => Ok(version),
+        Err(PageFault::Failed) => Err(RedoFault::Failed(Call::Read)),
+        Err(PageFault::BadPage { expected, found }) => Err(RedoFault::BadPage {
+            page,
+            expected,
+            found,
+        }),
+    }
+}
+
+/// Lists pages with the versions of their stored pages, which are read in this order.
+fn list_pages<S: Storage>(
+    s: &mut S,
+    config: &Config,
+    by: NodeNo,
+    pages: &[PageNo],
+    raw: &mut [u8],
+    index: &mut Index,
+) -> Result<(), RedoFault>
+    requires sizes { HasSizes config.now (S.pages s.old) (S.logs s.old) (S.rooms s.old) }
+    requires by { by < config.now.nodes }
+    requires below { All (λ p. p < config.now.pages) pages.now }
+    requires length { length raw.old ≡ config.now.size + 16 }
+    ensures listed { OnOk result ((d : Disk) (k : ℕ) → S.pages s.old ≡ Some d.pages → k < length pages.now → IsListed d index.new (slice_index pages.now k)) }
+    ensures ranges { OnOk result (index.new.ranges ≡ index.old.ranges) }
+    ensures first { (d : Disk) → S.pages s.old ≡ Some d.pages → IfErr result (NamesFirst d pages.now) }
+    ensures good { OnOk result ((d : Disk) → S.pages s.old ≡ Some d.pages → first_bad d pages.now ≡ None) }
+    ensures other { IfErr result NamesOther }
+    ensures pages { S.pages s.new ≡ S.pages s.old }
+    ensures logs { S.logs s.new ≡ S.logs s.old }
+    ensures rooms { S.rooms s.new ≡ S.rooms s.old }
+    ensures stops { S.stops s.new ≡ S.stops s.old }
+    ensures calm { (l : List (Option ℕ)) → NoneFails (S.failing s.old) by l → NoneFails (S.failing s.new) by l }
+    ensures quiet { (l : List (Option ℕ)) (k : Kind) → NoneFails (S.failing s.old) by l → IfErr result (λ e. e ≢ failed k) }
+    ensures counts { (k : Kind) → S.faults s.old k ≤ S.faults s.new k }
+    ensures cause { (k : Kind) → IfErr result (λ e. e ≡ failed k → Rose (S.faults s.old k) (S.faults s.new k)) }
+{
+    for page in pages {
+        let version = stored_version(s, by, *page, raw)?;
+        index.list(*page, version)?;
+    }
+    Ok(())
+}
+
+/// The chain of each listed page.
+fn chains_of(alloc: Global, index: &Index, pages: &[PageNo]) -> Result<Items<Chain>, NoMemory>
+    ensures { IfOk result (λ xs. AreAll (IsGiven index.now) pages.now xs) }
+{
+    let mut chains = Items::new(alloc);
+    for page in pages {
+        chains.push(index.chain(alloc, *page)?)?;
+    }
+    Ok(chains)
+}
+
+/// The page and the version of each chain.
+fn versions_of(alloc: Global, chains: &[Chain]) -> Result<Vec<(PageNo, Version)>, NoMemory>
+    ensures { IfOk result (λ vs. vs.items ≡ map (λ x. (x.page, x.version)) chains.now) }
+{
+    let mut versions = Vec::new(alloc);
+    for chain in chains {
+        versions.push((chain.page, chain.version))?;
+    }
+    Ok(versions)
+}
+
+/// Plans the redo of some pages: it reads their stored pages and walks all logs, takes all memory
+/// that the redo needs, and writes nothing. Pages are below `P`.
+///
+/// `Failed` comes only where the storage's count of that kind of call rose. `BadPage` names the
+/// first of the pages whose stored number is neither 0 nor the page's number plus one.
+pub fn prepare<S: Storage>(
+    alloc: Global,
+    s: &mut S,
+    config: &Config,
+    by: NodeNo,
+    pages: &Vec<PageNo>,
+) -> Result<Planned, RedoFault>
+    requires sizes { HasSizes config.now (S.pages s.old) (S.logs s.old) (S.rooms s.old) }
+    requires by { by < config.now.nodes }
+    requires below { All (λ p. p < config.now.pages) pages.now.items }
+    ensures chains { IfOk result (λ plan. (d : Disk) → S.pages s.old ≡ Some d.pages → S.logs s.old ≡ Some d.logs → AreChains config.now d pages.now.items plan.chains) }
+    ensures redone { IfOk result (λ plan. (d : Disk) → S.pages s.old ≡ Some d.pages → S.logs s.old ≡ Some d.logs → AreAll (IsRedone config.now d) pages.now.items plan.versions) }
+    ensures config { IfOk result (λ plan. plan.config ≡ config.now) }
+    ensures node { IfOk result (λ plan. plan.by ≡ by) }
+    ensures first { (d : Disk) → S.pages s.old ≡ Some d.pages → IfErr result (NamesFirst d pages.now.items) }
+    ensures good { OnOk result ((d : Disk) → S.pages s.old ≡ Some d.pages → first_bad d pages.now.items ≡ None) }
+    ensures other { IfErr result NamesOther }
+    ensures pages { S.pages s.new ≡ S.pages s.old }
+    ensures logs { S.logs s.new ≡ S.logs s.old }
+    ensures rooms { S.rooms s.new ≡ S.rooms s.old }
+    ensures stops { S.stops s.new ≡ S.stops s.old }
+    ensures calm { (l : List (Option ℕ)) → NoneFails (S.failing s.old) by l → NoneFails (S.failing s.new) by l }
+    ensures quiet { (l : List (Option ℕ)) (k : Kind) → NoneFails (S.failing s.old) by l → IfErr result (λ e. e ≢ failed k) }
+    ensures counts { (k : Kind) → S.faults s.old k ≤ S.faults s.new k }
+    ensures cause { (k : Kind) → IfErr result (λ e. e ≡ failed k → Rose (S.faults s.old k) (S.faults s.new k)) }
+{
+    let mut raw = vec![in alloc; 0u8; config.size() as usize + 16]?;
+    let mut index = Index::new(alloc);
+    list_pages(
+        s,
+        config,
+        by,
+        pages.as_slice(),
+        raw.as_mut_slice(),
+        &mut index,
+    )?;
+    index_logs(s, config, by, &mut index)?;
+    let chains = chains_of(alloc, &index, pages.as_slice())?;
+    let versions = versions_of(alloc, chains.as_slice())?;
+    Ok(Planned {
+        config: *config,
+        by,
+        versions,
+        chains,
+        raw,
+    })
+}
