@@ -8,7 +8,10 @@
 
 mod entry;
 mod find;
+mod members;
 mod settle;
+#[cfg(test)]
+mod tests;
 
 pub use entry::Entry;
 pub use pcl_base::{Decision, Holder, RightMark, Waiter};

@@ -8,18 +8,18 @@ use crate::find::mode_of;
 use pcl_base::{Decision, Holder, Mode, NoMemory, RightMark, TxId, Waiter};
 use smallvec::SmallVec;
 
-/// The candidate: the first that waits and is a holder, else the first that waits.
-pub(crate) fn candidate(holders: &[Holder], waiting: &[Waiter]) -> Option<Waiter>
-    ensures { result ≡ or_else (first_upgrade holders.now waiting.now) (head_of waiting.now) }
+/// The candidate: the upgrade, if there is one, else the first that waits.
+pub(crate) fn candidate(upgrade: Option<Waiter>, waiting: &[Waiter]) -> Option<Waiter>
+    ensures { result ≡ or_else upgrade (head_of waiting.now) }
 {
-    match first_upgrade(holders, waiting) {
+    match upgrade {
         Some(upgrade) => Some(upgrade),
         None => waiting.first().copied(),
     }
 }
 
 /// The first that waits and is a holder.
-fn first_upgrade(holders: &[Holder], waiting: &[Waiter]) -> Option<Waiter>
+pub(crate) fn first_upgrade(holders: &[Holder], waiting: &[Waiter]) -> Option<Waiter>
     ensures { result ≡ first_upgrade holders.now waiting.now }
 {
     for waiter in waiting {

@@ -7,5 +7,7 @@
 //! table of the rules that this is.
 
 mod table;
+#[cfg(test)]
+mod tests;
 
 pub use table::Table;

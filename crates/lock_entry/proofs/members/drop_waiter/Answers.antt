@@ -1,6 +1,6 @@
 use Rattle.std.proofs.Common.{rules}
 use Rattle.arrayvec.proofs.ArrayVecLemmas.{filter-from_retain}
-use Rattle.lock_entry.proofs.entry.keep_waiting.Goals as goal
+use Rattle.lock_entry.proofs.members.drop_waiter.Goals as goal
 
 pub returns : goal.returns
 returns c = filter-from_retain _ _ _ (λ x b f y call. search rules) _ _ c.retain.ensures.filtered

@@ -1,6 +1,6 @@
 use Rattle.std.proofs.Common.{◌∙◌, arith}
 use Rattle.lock_entry.proofs.Lists.{register_step, register_end}
-use Rattle.lock_entry.proofs.entry.register.Goals as goal
+use Rattle.lock_entry.proofs.members.register.Goals as goal
 
 pub loop-tx-preserved : goal.loop-tx-preserved
 loop-tx-preserved c = record {

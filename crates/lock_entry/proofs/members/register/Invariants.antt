@@ -1,6 +1,6 @@
 use Rattle.std.proofs.Common.{◌≡◌, ◌+◌, ◌-◌, ◌≤◌, length, drop}
 use Rattle.node_rules.specs.LockRule.{register}
-use Rattle.lock_entry.proofs.entry.register.Given as goal
+use Rattle.lock_entry.proofs.members.register.Given as goal
 
 abbrev pub invariant-loop-tx : goal.invariant-loop-tx
 invariant-loop-tx l = record {
