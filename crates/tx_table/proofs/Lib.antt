@@ -1,2 +1,5 @@
 pub mod Serials
 pub mod Locks
+pub mod Placed
+pub mod Counting
+pub mod Changes

@@ -1,5 +1,5 @@
 -- The open transactions under their serials, as a list.
-use Rattle.std.proofs.Common.{◌≡◌, ◌≢◌, ℕ, suc, ◌+◌, ◌<◌, ◌≤◌, ◌==◌, nat_eq, Bool, true, false, not, ◌&&◌, cond, Option, Some, None, is_some, Result, Ok, Err, List, [], ◌∷◌, ◌++◌, length, get_or, drop, drop-cons, refl, ap, sym, ◌∙◌, arith}
+use Rattle.std.proofs.Common.{◌≡◌, ◌≢◌, ℕ, suc, ◌+◌, ◌<◌, ◌≤◌, ◌==◌, nat_eq, Bool, true, false, not, cond, Option, Some, None, is_some, Result, Ok, Err, List, [], ◌∷◌, ◌++◌, length, get_or, drop, drop-cons, refl, ap, sym, ◌∙◌, arith}
 use Rattle.std.proofs.Math.ListN.{drop_of_length-le}
 use Rattle.std.proofs.lemmas.Bool.Decides.{nat_tests}
 use Rattle.std.specs.Result.{OnOk, OnErr}
@@ -110,15 +110,6 @@ linked_removed_case last s e es false linked rest = (linked.0, linked.1, absent_
 pub linked_removed : (last s : ℕ) (es : List (ℕ × OpenTx)) → IsLinked last es → IsLinked last (remove_entry (nat_eq s) es)
 linked_removed last s [] linked = tt
 linked_removed last s (e ∷ es) linked = linked_removed_case last s e es (nat_eq s e.0) linked (linked_removed last s es linked.3)
-
--- the open transaction of a name of this node and birth
-pub open_at_own : (s : OpenTxs) (t : TxId) → t.node ≡ s.node → t.born ≡ s.born → open_at s t ≡ with_serial s.txs t.serial
-open_at_own s t node born =
-    let own : is_own s t ≡ true = own_by t.node s.node t.born s.born node born in
-    ap (λ b. pick b (with_serial s.txs t.serial) None) own
-  where
-    own_by : (a b c d : ℕ) → a ≡ b → c ≡ d → (a == b && c == d) ≡ true
-    own_by a b c d x y = grind (arith, nat_tests)
 
 -- a lock at a place is that of the page, or another's
 pub lock_here : (hs : List Held) (p i : ℕ) (d : Held) → i < length hs → (get_or hs i d).page ≡ p → lock_on (drop i hs) p ≡ Some (get_or hs i d)

@@ -1,2 +1,5 @@
+pub mod Counts
+pub mod Lending
 pub mod Links
 pub mod Room
+pub mod Slots

@@ -1,7 +1,8 @@
-ghost use Rattle.std.specs.Prelude.{◌≡◌, ◌<◌, ◌==◌, ◌∷◌, ◌++◌, [], length, slice_set, None, Some, true, position, is_some, IsOk, OnOk, OnErr};
+ghost use Rattle.std.specs.Prelude.{◌≡◌, ◌<◌, ◌≤◌, ◌+◌, ◌==◌, ◌∷◌, ◌++◌, [], length, slice_set, None, Some, true, position, is_some, IsOk, OnOk, OnErr};
 ghost use Rattle.std.specs.Option.{option_copied};
 ghost use Rattle.node_rules.specs.OpenTxs.{with_lock, lock_on, kind_on, waits_on};
 ghost use Rattle.node_rules.specs.Words.{pick};
+ghost use Rattle.tx_table.specs.Counts.{locks_in, waits_in};
 
 use pcl_base::{Ended, Held, Items, Kind, NoMemory, PageNo, Pending};
 use std::alloc::Global;
@@ -55,35 +56,43 @@ impl Open {
         self.waiting.as_ref()
     }
 
-    /// Its serial.
-    pub(crate) fn serial(&self) -> u32
-        ensures { result ≡ self.now.serial }
+    /// The numbers of its locks and of its waiting accesses.
+    pub(crate) fn sizes(&self) -> (usize, usize)
+        ensures locks { result.0 ≡ locks_in self.now }
+        ensures waits { result.1 ≡ waits_in self.now }
     {
-        self.serial
+        match self.waiting {
+            None => (self.pages.len(), 0),
+            Some(_) => (self.pages.len(), 1),
+        }
     }
 
     /// Takes a lock, in the place of its lock on that page, else last. It ends a waiting access of
-    /// that page. It wants no memory where the page is held or waited for.
-    pub(crate) fn add(&mut self, lock: Held) -> Result<(), NoMemory>
+    /// that page. It wants no memory where the page is held or waited for. Locks and waiting
+    /// accesses grow by at most `room`; more is want of memory.
+    pub(crate) fn add(&mut self, lock: Held, room: usize) -> Result<(), NoMemory>
         ensures ok { OnOk result (self.new ≡ with_lock lock self.old) }
         ensures err { OnErr result (self.new ≡ self.old) }
         ensures serial { self.new.serial ≡ self.old.serial }
         ensures held { is_some (lock_on self.old.pages lock.page) ≡ true → IsOk result }
         ensures waits { waits_on self.old.waiting lock.page ≡ true → IsOk result }
+        ensures size { OnOk result (locks_in self.new + waits_in self.new ≤ locks_in self.old + waits_in self.old + room) }
     {
         match place_of(self.pages.as_slice(), lock.page) {
             Some(place) => {
                 self.replace(place, lock);
                 Ok(())
             }
-            None => self.add_last(lock),
+            None => self.add_last(lock, room),
         }
     }
 
     /// Puts a lock in the place of the one on its page.
     fn replace(&mut self, place: usize, lock: Held)
         requires { position (λ h. h.page == lock.page) self.old.pages ≡ Some place }
-        ensures { self.new ≡ with_lock lock self.old }
+        ensures lock { self.new ≡ with_lock lock self.old }
+        ensures locks { locks_in self.new ≡ locks_in self.old }
+        ensures waits { waits_in self.new ≤ waits_in self.old }
     {
         self.put(place, lock);
         if waits_on(&self.waiting, lock.page) {
@@ -126,15 +135,19 @@ impl Open {
     }
 
     /// Puts a lock on a page that isn't held last.
-    fn add_last(&mut self, lock: Held) -> Result<(), NoMemory>
+    fn add_last(&mut self, lock: Held, room: usize) -> Result<(), NoMemory>
         requires { position (λ h. h.page == lock.page) self.old.pages ≡ None }
         ensures ok { OnOk result (self.new ≡ with_lock lock self.old) }
         ensures err { OnErr result (self.new ≡ self.old) }
         ensures waits { waits_on self.old.waiting lock.page ≡ true → IsOk result }
+        ensures size { OnOk result (locks_in self.new + waits_in self.new ≤ locks_in self.old + waits_in self.old + room) }
     {
         if waits_on(&self.waiting, lock.page) {
             self.put_last(lock);
             return Ok(());
+        }
+        if room == 0 {
+            return Err(NoMemory);
         }
         self.put_next(lock)
     }
@@ -153,7 +166,8 @@ impl Open {
 
     /// Gives its lock on a page another kind.
     pub(crate) fn set_kind(&mut self, page: PageNo, kind: Kind)
-        ensures { self.new ≡ record self.old { pages = kind_on self.old.pages page kind } }
+        ensures kind { self.new ≡ record self.old { pages = kind_on self.old.pages page kind } }
+        ensures locks { locks_in self.new ≡ locks_in self.old }
     {
         let pages = &mut self.pages;
         set_kinds(pages.as_mut_slice(), page, kind);
@@ -195,7 +209,8 @@ fn waits_on(waiting: &Option<Pending>, page: PageNo) -> bool
 
 /// Gives the locks on a page another kind.
 fn set_kinds(locks: &mut [Held], page: PageNo, kind: Kind)
-    ensures { locks.new ≡ kind_on locks.old page kind }
+    ensures kind { locks.new ≡ kind_on locks.old page kind }
+    ensures len { length locks.new ≡ length locks.old }
 {
     for lock in locks.iter_mut() {
         *lock = with_kind(*lock, page, kind);

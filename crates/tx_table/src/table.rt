@@ -1,10 +1,11 @@
-ghost use Rattle.std.specs.Prelude.{◌≡◌, ℕ, ◌+◌, ◌-◌, ◌≤◌, ◌<◌, ◌↔◌, ◌==◌, [], None, Some, IfOk, IfSome, IfNone, OnSome, OnOk, OnErr, IsOk, true, is_some, not, length, map};
+ghost use Rattle.std.specs.Prelude.{◌≡◌, ℕ, ◌+◌, ◌-◌, ◌^◌, ◌≤◌, ◌<◌, ◌↔◌, ◌==◌, [], None, Some, IfOk, IfSome, IfNone, OnSome, OnOk, OnErr, IsOk, true, is_some, not, length, map};
 ghost use Rattle.std.specs.List.{filter};
 ghost use Rattle.std.specs.Option.{option_copied};
-ghost use Rattle.node_rules.specs.OpenTxs.{OpenTx, OpenTxs, begin, open_at, is_open, locks_of, held_by, pending_of, name_of, close_tx, with_serial, lock_on, add, wait, set_kind, waits_on};
+ghost use Rattle.tx_table.specs.Counts.{lock_count, wait_count};
+ghost use Rattle.node_rules.specs.OpenTxs.{OpenTx, OpenTxs, begin, open_at, is_open, is_own, locks_of, held_by, pending_of, name_of, close_tx, with_serial, lock_on, add, wait, set_kind, waits_on};
 
 use crate::open::Open;
-use indexmap::IndexMap;
+use crate::slots::Slots;
 use pcl_base::{Ended, Held, Items, Kind, NoMemory, NodeNo, PageNo, Pending, TxId};
 use std::alloc::Global;
 use std::marker::Model;
@@ -34,19 +35,23 @@ pub struct TxTable {
     node: NodeNo,
     born: u32,
     last: u32,
-    open: IndexMap<u32, Open>,
+    txs: Slots,
+    /// The number of their locks.
+    locks: usize,
+    /// The number of their waiting accesses.
+    waits: usize,
 }
 
 impl Model for TxTable {
     ghost use Rattle.std.specs.Map.{values_of};
     ghost use Rattle.node_rules.specs.OpenTxs.{OpenTxs};
-    ghost use Rattle.tx_table.specs.Links.{IsLinked};
+    ghost use Rattle.tx_table.specs.Counts.{IsCounted};
 
     ghost Value = { OpenTxs };
 
-    ghost view = { λ t. record { node = t.node; born = t.born; last = t.last; txs = values_of t.open.entries } };
+    ghost view = { λ t. record { node = t.node; born = t.born; last = t.last; txs = values_of t.txs } };
 
-    ghost invariant = { λ t. IsLinked t.last t.open.entries };
+    ghost invariant = { λ t. IsCounted t.last t.txs t.locks t.waits };
 }
 
 impl TxTable {
@@ -60,7 +65,9 @@ impl TxTable {
             node,
             born,
             last: first - 1,
-            open: IndexMap::new(alloc),
+            txs: Slots::new(alloc),
+            locks: 0,
+            waits: 0,
         }
     }
 
@@ -73,12 +80,13 @@ impl TxTable {
         ensures serial_end { (result ≡ Err BeginFault.SerialEnd) ↔ (self.old.last ≡ 4_294_967_295) }
         ensures too_many { result ≡ Err BeginFault.TooMany → 1024 ≤ length self.old.txs }
         ensures some { OnOk result (length self.old.txs < 1024) }
+        ensures no_memory { result ≡ Err BeginFault.NoMemory → length self.old.txs < 1024 }
         ensures err { OnErr result (self.new ≡ self.old) }
     {
         if self.last == u32::MAX {
             return Err(BeginFault::SerialEnd);
         }
-        if self.open.len() >= MOST_OPEN {
+        if self.txs.len() >= MOST_OPEN {
             return Err(BeginFault::TooMany);
         }
         match self.open_next() {
@@ -98,19 +106,10 @@ impl TxTable {
         ensures ok { OnOk result (self.new ≡ begin self.old) }
         ensures err { OnErr result (self.new ≡ self.old) }
     {
-        self.open.reserve(1)?;
         let serial = self.last + 1;
-        match self
-            .open
-            .insert(serial, Open::new(self.alloc, serial))
-            .unwrap()
-        {
-            None => {
-                self.last = serial;
-                Ok(())
-            }
-            Some(_old) => unreachable!(),
-        }
+        self.txs.push(serial, Open::new(self.alloc, serial))?;
+        self.last = serial;
+        Ok(())
     }
 
     /// The last serial that was given, `first` minus one at first.
@@ -124,17 +123,38 @@ impl TxTable {
     pub fn count(&self) -> usize
         ensures { result ≡ length self.now.txs }
     {
-        self.open.len()
+        self.txs.len()
+    }
+
+    /// The number of the locks of all open transactions.
+    pub fn lock_count(&self) -> usize
+        ensures { result ≡ lock_count self.now.txs }
+    {
+        self.locks
+    }
+
+    /// The number of the waiting accesses of all open transactions.
+    pub fn wait_count(&self) -> usize
+        ensures { result ≡ wait_count self.now.txs }
+    {
+        self.waits
+    }
+
+    /// Whether a transaction's name is one of this node and birth.
+    fn is_own(&self, tx: TxId) -> bool
+        ensures { result ≡ is_own self.now tx }
+    {
+        tx.node == self.node && tx.born == self.born
     }
 
     /// The open transaction of that name.
     fn find(&self, tx: TxId) -> Option<&Open>
         ensures { option_copied result ≡ open_at self.now tx }
     {
-        if tx.node != self.node || tx.born != self.born {
+        if !self.is_own(tx) {
             return None;
         }
-        self.open.get(&tx.serial)
+        self.txs.get(tx.serial)
     }
 
     /// Whether that transaction is open.
@@ -180,10 +200,21 @@ impl TxTable {
         ensures held { is_some (held_by self.old tx lock.page) ≡ true → IsOk result }
         ensures waits { waits_on (pending_of self.old tx) lock.page ≡ true → IsOk result }
     {
-        match self.open.get_mut(&tx.serial) {
-            None => unreachable!(),
-            Some(open) => open.add(lock),
-        }
+        let room = self.room();
+        let open = self.txs.at(tx.serial);
+        let before = open.sizes();
+        open.add(lock, room)?;
+        let after = open.sizes();
+        self.locks = self.locks - before.0 + after.0;
+        self.waits = self.waits - before.1 + after.1;
+        Ok(())
+    }
+
+    /// How many more locks and waiting accesses can be counted.
+    fn room(&self) -> usize
+        ensures { result + (lock_count self.now.txs + wait_count self.now.txs) ≡ 2 ^ 64 - 1 }
+    {
+        usize::MAX - (self.locks + self.waits)
     }
 
     /// Lets an open transaction, which has no waiting access, wait for one.
@@ -193,10 +224,12 @@ impl TxTable {
         ensures ok { OnOk result (self.new ≡ wait self.old tx access) }
         ensures err { OnErr result (self.new ≡ self.old) }
     {
-        match self.open.get_mut(&tx.serial) {
-            None => unreachable!(),
-            Some(open) => open.wait(access),
+        if self.room() == 0 {
+            return Err(NoMemory);
         }
+        self.txs.at(tx.serial).wait(access)?;
+        self.waits += 1;
+        Ok(())
     }
 
     /// Gives a lock of an open transaction another kind, and changes nothing else. It takes no
@@ -206,27 +239,14 @@ impl TxTable {
         requires lock { is_some (held_by self.old tx page) ≡ true }
         ensures { self.new ≡ set_kind self.old tx page kind }
     {
-        match self.open.get_mut(&tx.serial) {
-            None => unreachable!(),
-            Some(open) => open.set_kind(page, kind),
-        }
+        self.txs.at(tx.serial).set_kind(page, kind);
     }
 
     /// The names of the open transactions, by serial.
     pub fn ids(&self) -> Result<Vec<TxId>, NoMemory>
         ensures { IfOk result (λ ts. ts.items ≡ map (λ x. name_of self.now x.serial) self.now.txs) }
     {
-        let (node, born) = (self.node, self.born);
-        Ok(
-            self.open
-                .values()
-                .map(|open| TxId {
-                    node,
-                    born,
-                    serial: open.serial(),
-                })
-                .collect(self.alloc)?,
-        )
+        self.txs.names(self.alloc, self.node, self.born)
     }
 
     /// Ends a transaction: its pages in the order of first access and the access that waited.
@@ -238,7 +258,7 @@ impl TxTable {
         ensures closed { OnSome result (self.new ≡ close_tx self.old tx) }
         ensures none { IfNone result (self.new ≡ self.old) }
     {
-        if tx.node != self.node || tx.born != self.born {
+        if !self.is_own(tx) {
             return None;
         }
         match self.take(tx.serial) {
@@ -253,7 +273,15 @@ impl TxTable {
         ensures closed { OnSome result (self.new ≡ record self.old { txs = filter (λ x. not (x.serial == serial)) self.old.txs }) }
         ensures none { IfNone result (self.new ≡ self.old) }
     {
-        self.open.shift_remove(&serial)
+        match self.txs.remove(serial) {
+            None => None,
+            Some(open) => {
+                let (locks, waits) = open.sizes();
+                self.locks -= locks;
+                self.waits -= waits;
+                Some(open)
+            }
+        }
     }
 }
 
@@ -267,24 +295,4 @@ fn lock_on(locks: &[Held], page: PageNo) -> Option<Held>
         }
     }
     None
-}
-
-#[cfg(test)]
-mod tests {
-    use super::*;
-    use std::test::Fail;
-
-    #[test]
-    fn serials_and_room_end(rt: HostRuntime) -> Result<(), Fail> {
-        let mut last = TxTable::open(rt.alloc(), 0, 1, u32::MAX);
-        assert_eq!(rt; last.begin()?.serial, u32::MAX);
-        assert_eq!(rt; last.begin(), Err(BeginFault::SerialEnd));
-        let mut full = TxTable::open(rt.alloc(), 0, 1, 1);
-        for _ in 0..1024 {
-            let _tx = full.begin()?;
-        }
-        assert_eq!(rt; full.begin(), Err(BeginFault::TooMany));
-        assert_eq!(rt; full.ids()?.len(), 1024);
-        Ok(())
-    }
 }

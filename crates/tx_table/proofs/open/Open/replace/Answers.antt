@@ -6,8 +6,8 @@ use Rattle.tx_table.proofs.open.Open.replace.Goals as goal
 pub put-requires : goal.put-requires
 put-requires c = place_within c.args.self.now.pages c.args.lock.page c.args.place c.requires
 
-pub returns-then-waits_on : goal.returns-then-waits_on
-returns-then-waits_on c =
+pub returns-then-waits_on-clause-lock : goal.returns-then-waits_on-clause-lock
+returns-then-waits_on-clause-lock c =
     let now = c.args.self.now in
     let l = c.args.lock in
     let same = ap (λ (o : OpenTx). o.waiting) c.self.view_is ∙ ap (λ (o : OpenTx). o.waiting) c.put.ensures in
@@ -16,8 +16,8 @@ returns-then-waits_on c =
     ∙ (ap (λ (o : OpenTx). record { serial = o.serial; pages = o.pages; waiting = None }) c.put.ensures
     ∙ with_lock_is now l (slice_set now.pages c.args.place l) None true (put_at now.pages l c.args.place c.requires) test refl)
 
-pub returns-else-waits_on : goal.returns-else-waits_on
-returns-else-waits_on c =
+pub returns-else-waits_on-clause-lock : goal.returns-else-waits_on-clause-lock
+returns-else-waits_on-clause-lock c =
     let now = c.args.self.now in
     let l = c.args.lock in
     let same = ap (λ (o : OpenTx). o.waiting) c.self.view_is ∙ ap (λ (o : OpenTx). o.waiting) c.put.ensures in
