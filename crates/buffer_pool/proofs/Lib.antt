@@ -1,0 +1,11 @@
+pub mod Calls
+pub mod Changes
+pub mod Entries
+pub mod Freed
+pub mod Names
+pub mod Pools
+pub mod Privates
+pub mod Rows
+pub mod Tables
+pub mod Totals
+pub mod Written
