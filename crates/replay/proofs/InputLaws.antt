@@ -1,5 +1,5 @@
 -- What is due to an input is the text of a run.
-use Rattle.std.proofs.Common.{◌≡◌, refl, sym, ap, subst, ◌∙◌, ℕ, zero, suc, ◌+◌, ◌-◌, Bool, true, false, List, [], ◌∷◌, ◌++◌, append_assoc, length, None, Some, Ok, Err, ◌⊎◌, inl, inr, arith}
+use Rattle.std.proofs.Common.{◌≡◌, refl, sym, ap, subst, ◌∙◌, ℕ, suc, ◌+◌, ◌-◌, Bool, true, false, List, [], ◌∷◌, ◌++◌, append_assoc, length, None, Some, Ok, Err, inl, inr, arith}
 use Rattle.std.proofs.lemmas.Bool.Decides.{nat_tests}
 use Rattle.std.specs.Prelude.{Option, Result, nat_eq, codes}
 use Rattle.std.specs.List.{flat_map, sum_by}
@@ -9,19 +9,18 @@ use Rattle.pcl_base.specs.declared.config.ConfigFault.{ConfigFault}
 use Rattle.pcl_base.specs.declared.event.Event.{Event}
 use Rattle.pcl_base.specs.declared.event.Header.{Header}
 use Rattle.pcl_base.specs.declared.trace.Entry.{Entry}
-use Rattle.schedule_text.specs.FourWords.{line_at}
-use Rattle.schedule_text.specs.declared.line.Line.{Line}
-use Rattle.schedule_text.specs.declared.line.Line.TheVariants.{Good, Bad, Other}
+use Rattle.text_rules.specs.ReadEvent.{event_of}
+use Rattle.text_rules.specs.BadLine.{bad_at, header_forms, event_forms, bad_header_text}
 use Rattle.text_rules.specs.ScheduleLine.{header_line}
 use Rattle.text_rules.specs.ReadLine.{header_of}
-use Rattle.text_rules.specs.TraceText.{echo_text, entry_text, entry_commits, end_text, trace_text}
+use Rattle.text_rules.specs.TraceText.{echo_text, entry_text, entry_commits, end_text}
 use Rattle.run_rules.specs.Fresh.{IsFresh}
 use Rattle.run_rules.specs.Serial.{IsSerial}
-use Rattle.replay.specs.SingleRun.{pick, Single, Stepped, first_single, step, entries_after, run, run_of}
+use Rattle.replay.specs.SingleRun.{pick, Single, Stepped, first_single, step, entries_after, run}
 use Rattle.replay.specs.SingleRun.Stepped.{Gives, Later}
-use Rattle.replay.specs.Due.{Reading, Place, Told, most_lines, most_bytes, first_place, silent, joined, last_line, bad, later, long, after_line, with_sizes, with_header, with_step, with_line, judged_by, judged, grown, fed, fed_at, read_from, cut_line, ended_after, ended_by, at_end, due}
+use Rattle.replay.specs.Due.{Reading, Place, Told, most_lines, most_bytes, silent, joined, last_line, bad_line, later, long, after_line, with_sizes, with_header, with_step, with_line, judged_by, judged, grown, fed, fed_at, read_from, ended_after, ended_by, at_end, due}
 use Rattle.replay.specs.Due.Place.{Going, Stopped}
-use Rattle.replay.specs.RunOfInput.{EndsBefore, IsRun, IsNoRun, IsRunOrNone}
+use Rattle.replay.specs.RunOfInput.{EndsBefore, IsRunOrNone}
 use Rattle.replay.proofs.SingleRunLaws.{run-fresh, run-serial}
 
 -- what is due to the rest of an input
@@ -69,14 +68,13 @@ fed_step r s e (Gives next entry) same =
     takes e next entry (record { lines = r.lines + 1; part = []; single = Some next; commits = r.commits + entry_commits entry }) same refl refl refl
 fed_step r s e Later same = stops 7 (last_line (codes "later") r.lines)
 
-fed_line : (r : Reading) (s : Single) (line : Line) → Fed r.lines r.commits s (with_line r s line)
-fed_line r s (Good e) = fed_step r s e (step s e) refl
-fed_line r s Bad = stops 2 (last_line (codes "bad") r.lines)
-fed_line r s Other = stops 7 (last_line (codes "later") r.lines)
+fed_line : (r : Reading) (s : Single) (o : Option Event) → Fed r.lines r.commits s (with_line r s o)
+fed_line r s (Some e) = fed_step r s e (step s e) refl
+fed_line r s None = stops 2 (bad_line r.lines (bad_at true event_forms r.part))
 
 fed_judged : (r : Reading) (s : Single) → r.single ≡ Some s → Fed r.lines r.commits s (judged r)
 unfolding judged
-fed_judged r s e = subst (λ (x : Told). Fed r.lines r.commits s x) (sym (ap (judged_by r) e)) (fed_line r s (line_at r.part))
+fed_judged r s e = subst (λ (x : Told). Fed r.lines r.commits s x) (sym (ap (judged_by r) e)) (fed_line r s (event_of r.part))
 
 by_pick : (b : Bool) (P : Told → Type 0) (x y : Told) → (b ≡ true → P x) → (b ≡ false → P y) → P (pick b x y)
 by_pick true P x y f g = f refl
@@ -111,11 +109,6 @@ goes_stopped n k s text status =
 end_same : (m n i j : ℕ) → m ≡ n → i ≡ j → end_text m i ≡ end_text n j
 end_same m n i j e f = ap (λ (x : ℕ). end_text x i) e ∙ ap (λ (x : ℕ). end_text n x) f
 
-goes_line : (n k : ℕ) (r : Reading) (s : Single) (line : Line) → Goes n k s (cut_line r line)
-goes_line n k r s (Good e) = goes_stopped n k s (last_line (codes "bad") r.lines) 2
-goes_line n k r s Bad = goes_stopped n k s (last_line (codes "bad") r.lines) 2
-goes_line n k r s Other = goes_stopped n k s (last_line (codes "later") r.lines) 7
-
 goes_end : (n k : ℕ) (r : Reading) (s : Single) (part : List ℕ) → r.lines ≡ n + 1 → r.commits ≡ k → Goes n k s (ended_after r part)
 unfolding run
 goes_end n k r s [] lines commits =
@@ -126,7 +119,7 @@ goes_end n k r s [] lines commits =
       text = refl;
       whole = λ e. end_same (r.lines - 1) (n + 0) r.commits (k + 0) (omega arith) (omega arith);
     }
-goes_end n k r s (b ∷ bs) lines commits = goes_line n k r s (line_at (b ∷ bs))
+goes_end n k r s (b ∷ bs) lines commits = goes_stopped n k s (bad_line r.lines (bad_at false event_forms (b ∷ bs))) 2
 
 commits_same : (k c m n : ℕ) → n ≡ c + m → k + c + m ≡ k + n
 commits_same k c m n e = omega arith
@@ -174,14 +167,14 @@ data Head (line : List ℕ) : Told → Type 0 where
 
 head_sizes : (r : Reading) (h : Header) (o : Result Sizes ConfigFault) → header_of r.part ≡ Some h
     → config_of h.nodes h.pages h.size h.frames ≡ o → r.lines ≡ 0 → Head r.part (with_sizes r h o)
-head_sizes r h (Err fault) is numbers lines = fails 2 (last_line (codes "bad") r.lines)
+head_sizes r h (Err fault) is numbers lines = fails 2 (bad_header_text fault)
 head_sizes r h (Ok c) is numbers lines =
     by_pick (nat_eq c.nodes 1) (Head r.part) (record { entries = []; text = echo_text (header_line h); place = after_line r (first_single c) 0 }) (later r)
     (λ one. starts h c (record { lines = r.lines + 1; part = []; single = Some (first_single c); commits = 0 }) is numbers refl (omega arith) refl)
     (λ more. fails 7 (last_line (codes "later") r.lines))
 
 head_header : (r : Reading) (o : Option Header) → header_of r.part ≡ o → r.lines ≡ 0 → Head r.part (with_header r o)
-head_header r None is lines = fails 2 (last_line (codes "bad") r.lines)
+head_header r None is lines = fails 2 (bad_line r.lines (bad_at true header_forms r.part))
 head_header r (Some h) is lines = head_sizes r h (config_of h.nodes h.pages h.size h.frames) is refl lines
 
 head_judged : (r : Reading) → r.single ≡ None → r.lines ≡ 0 → Head r.part (judged r)
@@ -253,7 +246,7 @@ heads : (bs : List ℕ) (r : Reading) (input : List ℕ) → r.single ≡ None �
     → IsRunOrNone input (rest_of (Going r) bs)
 unfolding read_from at_end
 heads [] r input single lines commits first =
-    subst (λ (x : Told). IsRunOrNone input x) (sym (ap (ended_by r) single)) (no_run input (last_line (codes "bad") r.lines) 2)
+    subst (λ (x : Told). IsRunOrNone input x) (sym (ap (ended_by r) single)) (no_run input (bad_line r.lines (bad_at false header_forms r.part)) 2)
 heads (b ∷ bs) r input single lines commits first =
     subst (λ (x : Told). IsRunOrNone input x) (sym (rest-cons (Going r) b bs))
     (head_fed bs r input b single lines commits first (λ q s l c f. heads bs q input s l c f))

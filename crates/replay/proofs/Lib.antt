@@ -7,3 +7,4 @@ mod EndLemmas
 mod RunLemmas
 mod TracedLaws
 mod RanLemmas
+mod BadLineLemmas

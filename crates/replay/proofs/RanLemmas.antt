@@ -1,5 +1,5 @@
 -- What a run ends with, from what it has reached.
-use Rattle.std.proofs.Common.{◌≡◌, ℕ, ◌==◌, ◌||◌, ◌≤◌, Bool, true, false, List, [], ◌++◌, Option, Some, None, Result, Ok, Err, refl, sym, ap, subst, ◌∙◌, inl, inr, arith}
+use Rattle.std.proofs.Common.{◌≡◌, ℕ, ◌==◌, ◌||◌, ◌≤◌, Bool, true, false, List, [], ◌++◌, Option, Result, Ok, Err, refl, sym, ap, subst, ◌∙◌, inl, inr, arith}
 use Rattle.std.specs.Prelude.{IsTrue, IfOk}
 use Rattle.std.specs.Io.KnownBytes.{Appends, Consumes, Keeps, IsAtEnd}
 use Rattle.std.proofs.lemmas.List.{append-nil}
@@ -8,7 +8,7 @@ use Rattle.replay.specs.declared.ends.Fault.{Fault}
 use Rattle.replay.specs.declared.ends.Fault.TheVariants.{Source, Sink, Memory}
 use Rattle.replay.specs.Due.{Reading, first_reading, first_place, read_from, at_end, due}
 use Rattle.replay.specs.Due.Place.{Going, Stopped}
-use Rattle.replay.specs.Outcome.{AppendsPart, IsJudged, Outcome, is_judged, is_stop}
+use Rattle.replay.specs.Outcome.{AppendsPart, Outcome, is_judged, is_stop}
 use Rattle.replay.specs.Wrote.{Wrote, Reached, Ran, Ends, Fails, IsWriteFault}
 use Rattle.replay.proofs.EndLemmas.{appends_both, appends_nothing, consumes_both, consumes_nothing, consumes_kept}
 use Rattle.replay.proofs.TracedLaws.{due_traced}

@@ -1,12 +1,12 @@
 -- Reading goes on where it stopped.
-use Rattle.std.proofs.Common.{◌≡◌, ℕ, ◌+◌, ◌<◌, ◌≤◌, List, [], ◌∷◌, ◌++◌, length, take, drop, get_or, inl, inr, arith, append_assoc, refl, sym, ap, subst, ◌∙◌, Option}
+use Rattle.std.proofs.Common.{◌≡◌, ℕ, ◌+◌, ◌<◌, ◌≤◌, List, [], ◌∷◌, ◌++◌, length, take, drop, get_or, inl, inr, arith, append_assoc, refl, sym, ap, ◌∙◌, Option}
 use Rattle.std.specs.Io.KnownBytes.{Appends}
 use Rattle.std.proofs.lemmas.List.{append-nil, take-append-drop, take_more}
 use Rattle.pcl_base.specs.Faults.{Rose}
 use Rattle.replay.specs.declared.ends.Fault.{Fault}
 use Rattle.replay.specs.declared.ends.Fault.TheVariants.{Source, Sink, Memory}
 use Rattle.replay.specs.Wrote.{IsWriteFault}
-use Rattle.replay.specs.Due.{Reading, Told, Place, first_place, fed, fed_at, read_from, at_end, due}
+use Rattle.replay.specs.Due.{Reading, Place, first_place, fed, fed_at, read_from, at_end, due}
 use Rattle.replay.specs.Due.Place.{Going, Stopped}
 use Rattle.replay.specs.Outcome.{AppendsPart}
 use Rattle.replay.proofs.EndLemmas.{appends_both, appends_nothing}

@@ -1,5 +1,5 @@
 -- A run that comes to the end of its input has written the text of a fresh and serial trace.
-use Rattle.std.proofs.Common.{◌≡◌, ℕ, ◌+◌, ◌-◌, ◌==◌, ◌||◌, Bool, true, false, List, [], ◌∷◌, ◌++◌, append_assoc, length, Option, Some, None, Result, Ok, Err, refl, sym, ap, subst, ◌∙◌, arith}
+use Rattle.std.proofs.Common.{◌≡◌, ℕ, ◌+◌, ◌-◌, ◌==◌, Bool, true, false, List, [], ◌∷◌, ◌++◌, append_assoc, length, Option, Some, None, Result, Ok, Err, refl, sym, ap, subst, ◌∙◌, arith}
 use Rattle.std.specs.Prelude.{IsTrue, sum_by}
 use Rattle.std.specs.List.{flat_map}
 use Rattle.std.proofs.lemmas.List.{append-nil, length-append}
@@ -13,12 +13,10 @@ use Rattle.pcl_base.specs.declared.trace.Entry.{Entry}
 use Rattle.text_rules.specs.ScheduleLine.{header_line}
 use Rattle.text_rules.specs.ReadLine.{header_of}
 use Rattle.text_rules.specs.TraceText.{echo_text, entry_text, entry_commits, end_text, trace_text}
-use Rattle.schedule_text.specs.FourWords.{line_at}
-use Rattle.schedule_text.specs.declared.line.Line.{Line}
-use Rattle.schedule_text.specs.declared.line.Line.TheVariants.{Good, Bad, Other}
+use Rattle.text_rules.specs.ReadEvent.{event_of}
 use Rattle.replay.specs.SingleRun.{pick, Single, Stepped, first_single, step, run, run_of, entries_after}
 use Rattle.replay.specs.SingleRun.Stepped.{Gives, Later}
-use Rattle.replay.specs.Due.{Reading, Place, Told, first_reading, first_place, most_lines, most_bytes, with_sizes, with_header, with_step, with_line, judged_by, judged, grown, fed, fed_at, read_from, ended_after, ended_by, cut_line, silent, long, at_end, due}
+use Rattle.replay.specs.Due.{Reading, Place, Told, first_place, most_lines, most_bytes, with_sizes, with_header, with_step, with_line, judged_by, judged, grown, fed, fed_at, read_from, ended_after, ended_by, silent, long, at_end, due}
 use Rattle.replay.specs.Due.Place.{Going, Stopped}
 use Rattle.replay.specs.Outcome.{is_stop}
 use Rattle.replay.specs.TracedRun.{IsTraced}
@@ -117,14 +115,13 @@ step_goes text r s event (Gives next e) same here =
       commits_are = let p = points_more here.entries e in omega (arith, p, here.commits_are);
     }
 
-line_goes : (text : List ℕ) (r : Reading) (s : Single) (line : Line) → InRun text r.lines r.commits s → Goes text (with_line r s line)
-line_goes text r s (Good event) here = step_goes text r s event (step s event) refl here
-line_goes text r s Bad here = refl
-line_goes text r s Other here = refl
+line_goes : (text : List ℕ) (r : Reading) (s : Single) (o : Option Event) → InRun text r.lines r.commits s → Goes text (with_line r s o)
+line_goes text r s (Some event) here = step_goes text r s event (step s event) refl here
+line_goes text r s None here = refl
 
 -- a whole line
 judged_case : (text : List ℕ) (r : Reading) (single : Option Single) → InNode text r single → Goes text (judged_by r single)
-judged_case text r (Some s) here = line_goes text r s (line_at r.part) here
+judged_case text r (Some s) here = line_goes text r s (event_of r.part) here
 judged_case text r None here = header_goes text r (header_of r.part) here.0 here.1
 
 judged_goes : (text : List ℕ) (r : Reading) → InNode text r r.single → Goes text (judged r)
@@ -164,12 +161,6 @@ all_go text place (b ∷ bs) here =
     let next = all_go (text ++ (fed_at place b).text) (fed_at place b).place bs (fed_goes text place b here) in
     subst (λ t. At t (read_from (fed_at place b).place bs).place) (append_assoc text (fed_at place b).text (read_from (fed_at place b).place bs).text) next
 
--- a cut line doesn't end a run with status 0
-cut_ends : (r : Reading) (line : Line) → (cut_line r line).place ≡ Stopped 0 → ⊥
-cut_ends r (Good event) h = cc h
-cut_ends r Bad h = cc h
-cut_ends r Other h = cc h
-
 -- the end
 node_ends : (text : List ℕ) (r : Reading) (s : Single) (part : List ℕ) → InRun text r.lines r.commits s → (ended_after r part).place ≡ Stopped 0
     → IsTraced (text ++ (ended_after r part).text)
@@ -191,7 +182,7 @@ node_ends text r s [] here ended =
       fresh = run-fresh here.sizes here.events;
       serial = run-serial here.sizes here.events;
     }
-node_ends text r s (b ∷ bs) here ended = absurd (cut_ends r (line_at (b ∷ bs)) ended)
+node_ends text r s (b ∷ bs) here ended = cc ended
 
 node_case : (text : List ℕ) (r : Reading) (single : Option Single) → InNode text r single → (ended_by r single).place ≡ Stopped 0
     → IsTraced (text ++ (ended_by r single).text)

@@ -1,14 +1,14 @@
 -- What is written for an input, and the status: line by line, as the bytes come.
-use Rattle.std.specs.Prelude.{ℕ, ◌+◌, ◌-◌, ◌==◌, List, [], ◌∷◌, ◌++◌, length, codes, Option, Some, None, Result, Ok, Err}
+use Rattle.std.specs.Prelude.{ℕ, ◌+◌, ◌-◌, ◌==◌, true, false, List, [], ◌∷◌, ◌++◌, length, codes, Option, Some, None, Result, Ok, Err}
 use Rattle.pcl_base.specs.Limits.{Sizes, config_of}
 use Rattle.pcl_base.specs.declared.config.ConfigFault.{ConfigFault}
+use Rattle.pcl_base.specs.declared.event.Event.{Event}
 use Rattle.pcl_base.specs.declared.event.Header.{Header}
 use Rattle.pcl_base.specs.declared.trace.Entry.{Entry}
 use Rattle.text_rules.specs.ScheduleLine.{header_line, spaced}
 use Rattle.text_rules.specs.ReadLine.{header_of}
-use Rattle.schedule_text.specs.FourWords.{line_at}
-use Rattle.schedule_text.specs.declared.line.Line.{Line}
-use Rattle.schedule_text.specs.declared.line.Line.TheVariants.{Good, Bad, Other}
+use Rattle.text_rules.specs.ReadEvent.{event_of}
+use Rattle.text_rules.specs.BadLine.{Why, bad_at, header_forms, event_forms, bad_text, bad_header_text}
 use Rattle.text_rules.specs.TraceText.{ended, echo_text, entry_text, entry_commits, end_text}
 use Rattle.replay.specs.SingleRun.{pick, Single, Stepped, first_single, step}
 use Rattle.replay.specs.SingleRun.Stepped.{Gives, Later}
@@ -58,8 +58,13 @@ joined a b = record { entries = a.entries ++ b.entries; text = a.text ++ b.text;
 abbrev pub last_line : List ℕ → ℕ → List ℕ
 last_line word lines = ended (word ++ spaced (lines + 1))
 
-abbrev pub bad : Reading → Told
-bad r = record { entries = []; text = last_line (codes "bad") r.lines; place = Stopped 3 }
+-- the last line at a bad line: its number, the column and why; each line that gives nothing has them
+abbrev pub bad_line : ℕ → Option (ℕ × Why) → List ℕ
+bad_line lines (Some at) = bad_text (lines + 1) at.0 at.1
+bad_line lines None = []
+
+abbrev pub bad : Reading → Option (ℕ × Why) → Told
+bad r at = record { entries = []; text = bad_line r.lines at; place = Stopped 3 }
 
 abbrev pub later : Reading → Told
 later r = record { entries = []; text = last_line (codes "later") r.lines; place = Stopped 8 }
@@ -77,27 +82,26 @@ with_sizes r h (Ok c) =
     pick (c.nodes == 1)
     (record { entries = []; text = echo_text (header_line h); place = after_line r (first_single c) 0 })
     (later r)
-with_sizes r h (Err fault) = bad r
+with_sizes r h (Err fault) = record { entries = []; text = bad_header_text fault; place = Stopped 3 }
 
 abbrev pub with_header : Reading → Option Header → Told
 with_header r (Some h) = with_sizes r h (config_of h.nodes h.pages h.size h.frames)
-with_header r None = bad r
+with_header r None = bad r (bad_at true header_forms r.part)
 
--- a further line: an event, that the node takes
+-- a further line of the grammar: an event, that the node takes
 abbrev pub with_step : Reading → Stepped → Told
 with_step r (Gives s e) =
     record { entries = e ∷ []; text = entry_text e; place = after_line r s (r.commits + entry_commits e) }
 with_step r Later = later r
 
-abbrev pub with_line : Reading → Single → Line → Told
-with_line r s (Good event) = with_step r (step s event)
-with_line r s Bad = bad r
-with_line r s Other = later r
+abbrev pub with_line : Reading → Single → Option Event → Told
+with_line r s (Some event) = with_step r (step s event)
+with_line r s None = bad r (bad_at true event_forms r.part)
 
 -- a whole line
 abbrev pub judged_by : Reading → Option Single → Told
 judged_by r None = with_header r (header_of r.part)
-judged_by r (Some s) = with_line r s (line_at r.part)
+judged_by r (Some s) = with_line r s (event_of r.part)
 
 unfoldable pub judged : Reading → Told
 judged r = judged_by r r.single
@@ -120,19 +124,13 @@ unfoldable pub read_from : Place → List ℕ → Told
 read_from place [] = silent place
 read_from place (b ∷ bs) = joined (fed_at place b) (read_from (fed_at place b).place bs)
 
--- a last line without a newline
-abbrev pub cut_line : Reading → Line → Told
-cut_line r (Good event) = bad r
-cut_line r Bad = bad r
-cut_line r Other = later r
-
--- the end of the input: behind a whole line, or within one
+-- the end of the input: behind a whole line, or within one, which no newline ends
 abbrev pub ended_after : Reading → List ℕ → Told
 ended_after r [] = record { entries = []; text = end_text (r.lines - 1) r.commits; place = Stopped 0 }
-ended_after r (b ∷ bs) = cut_line r (line_at (b ∷ bs))
+ended_after r (b ∷ bs) = bad r (bad_at false event_forms (b ∷ bs))
 
 abbrev pub ended_by : Reading → Option Single → Told
-ended_by r None = bad r
+ended_by r None = bad r (bad_at false header_forms r.part)
 ended_by r (Some s) = ended_after r r.part
 
 unfoldable pub at_end : Place → Told

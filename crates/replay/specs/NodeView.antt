@@ -1,5 +1,5 @@
 -- What holds of the node between two events, and what an event leaves.
-use Rattle.std.specs.Prelude.{ℕ, ◌+◌, ◌*◌, ◌≤◌, Bool, true, false, List, [], ◌++◌, length, flat_map, All, Option, Some, None}
+use Rattle.std.specs.Prelude.{ℕ, ◌+◌, ◌*◌, ◌≤◌, Bool, true, false, List, [], length, flat_map, All, Option, Some, None}
 use Rattle.text_rules.specs.TraceText.{ended, reply_line, entry_commits}
 use Rattle.pcl_base.specs.declared.reply.Reason.{Reason}
 use Rattle.pcl_base.specs.declared.reply.Reason.TheVariants.{NoTx, NoPage, BadRange}

@@ -1,12 +1,10 @@
 -- What a run leaves of the input and of the output, by its status.
-use Rattle.std.specs.Prelude.{◌≡◌, ℕ, ◌≤◌, ◌==◌, ◌||◌, ◌⊎◌, Bool, List, ◌++◌, Option, Some, None, Result, Ok, Err, IsTrue, OnOk, OnErr, IfErr, IfSome}
+use Rattle.std.specs.Prelude.{◌≡◌, ℕ, ◌==◌, ◌||◌, ◌⊎◌, Bool, List, ◌++◌, Option, IsTrue}
 use Rattle.std.specs.Io.KnownBytes.{Appends, Consumes, IsAtEnd}
 use Rattle.pcl_base.specs.Faults.{Rose}
-use Rattle.replay.specs.declared.ends.Fault.{Fault}
-use Rattle.replay.specs.declared.ends.Fault.TheVariants.{Source, Sink, Memory}
 use Rattle.replay.specs.TracedRun.{IsTraced}
-use Rattle.replay.specs.Due.{Reading, first_place, read_from, due}
-use Rattle.replay.specs.Due.Place.{Going, Stopped}
+use Rattle.replay.specs.Due.{first_place, read_from, due}
+use Rattle.replay.specs.Due.Place.{Stopped}
 
 -- a beginning of the text was appended
 abbrev pub AppendsPart : Option (List ℕ) → Option (List ℕ) → List ℕ → Type 0

@@ -2,7 +2,7 @@
 use Rattle.std.specs.Prelude.{ℕ, ◌≤◌, Option, Some, None}
 use Rattle.pcl_base.specs.declared.event.Event.{Event}
 use Rattle.replay.specs.SingleRun.{Single, step}
-use Rattle.replay.specs.Due.{Reading, Place, Told, with_step, bad}
+use Rattle.replay.specs.Due.{Reading, Place, Told, with_step, with_line, bad}
 use Rattle.replay.specs.Due.Place.{Going, Stopped}
 
 -- the serial of the transaction begun last
@@ -24,4 +24,9 @@ place_of (Some status) r = Stopped status
 -- an event taken by the node, where there is one
 abbrev pub taken_by : Reading → Option Single → Event → Told
 taken_by r (Some s) event = with_step r (step s event)
-taken_by r None event = bad r
+taken_by r None event = bad r None
+
+-- a further line, where there is a node
+abbrev pub line_taken : Reading → Option Single → Option Event → Told
+line_taken r (Some s) event = with_line r s event
+line_taken r None event = bad r None

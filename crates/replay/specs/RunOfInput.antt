@@ -1,18 +1,16 @@
 -- What is due to an input is the text of a run, which is fresh and serial.
-use Rattle.std.specs.Prelude.{◌≡◌, ℕ, List, [], ◌∷◌, ◌++◌, ◌⊎◌, length, Option, Some, Result, Ok}
+use Rattle.std.specs.Prelude.{◌≡◌, ℕ, List, [], ◌∷◌, ◌++◌, ◌⊎◌, length, Some, Ok}
 use Rattle.std.specs.List.{flat_map}
 use Rattle.pcl_base.specs.Limits.{Sizes, config_of}
-use Rattle.pcl_base.specs.declared.config.ConfigFault.{ConfigFault}
 use Rattle.pcl_base.specs.declared.event.Event.{Event}
 use Rattle.pcl_base.specs.declared.event.Header.{Header}
-use Rattle.pcl_base.specs.declared.trace.Entry.{Entry}
 use Rattle.text_rules.specs.ScheduleLine.{header_line}
 use Rattle.text_rules.specs.ReadLine.{header_of}
 use Rattle.text_rules.specs.TraceText.{echo_text, entry_text, trace_text}
 use Rattle.run_rules.specs.Fresh.{IsFresh}
 use Rattle.run_rules.specs.Serial.{IsSerial}
 use Rattle.replay.specs.SingleRun.{run_of}
-use Rattle.replay.specs.Due.{Told, Place, most_bytes}
+use Rattle.replay.specs.Due.{Told, most_bytes}
 use Rattle.replay.specs.Due.Place.{Stopped}
 
 -- the first line of an input: it ends before a newline, or it is as long as a line may be

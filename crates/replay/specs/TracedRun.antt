@@ -1,5 +1,5 @@
 -- The text of a whole run, and what its trace tells of the pages.
-use Rattle.std.specs.Prelude.{◌≡◌, ℕ, List, Result, Ok}
+use Rattle.std.specs.Prelude.{◌≡◌, ℕ, List, Ok}
 use Rattle.pcl_base.specs.Limits.{Sizes, config_of}
 use Rattle.pcl_base.specs.declared.event.Header.{Header}
 use Rattle.pcl_base.specs.declared.event.Event.{Event}

@@ -5,7 +5,7 @@ use Rattle.pcl_base.specs.Faults.{Rose}
 use Rattle.replay.specs.declared.ends.Fault.{Fault}
 use Rattle.replay.specs.declared.ends.Fault.TheVariants.{Source, Sink, Memory}
 use Rattle.replay.specs.Due.{Reading, first_place, read_from, due}
-use Rattle.replay.specs.Due.Place.{Going, Stopped}
+use Rattle.replay.specs.Due.Place.{Going}
 use Rattle.replay.specs.Outcome.{AppendsPart, IsJudged, is_judged, is_stop}
 
 -- the sink failed, or memory ran out

@@ -1,9 +1,9 @@
-ghost use Rattle.std.specs.Prelude.{◌≡◌, ◌++◌, ◌<◌, ◌≤◌, OnOk, IfOk, IsSome, IsTrue};
+ghost use Rattle.std.specs.Prelude.{◌≡◌, ◌+◌, ◌++◌, ◌<◌, ◌≤◌, false, length, OnOk, IfOk, IsSome, IsTrue};
 
 use crate::node::Node;
 use crate::text::Text;
 use pcl_base::{Config, Event, Header, NoMemory};
-use schedule_text::{Line, read_header, read_line};
+use schedule_text::{LineFault, LineReason, read_header, read_line};
 use std::alloc::Global;
 use std::marker::Model;
 
@@ -36,10 +36,15 @@ impl Model for Reader {
 
 impl Reader {
     ghost use Rattle.std.specs.Prelude.{None, Some, []};
-    ghost use Rattle.replay.specs.Due.{fed as fed_spec, at_end, last_line, with_header, judged};
+    ghost use Rattle.replay.specs.Due.{fed as fed_spec, at_end, last_line, bad_line, with_header, judged};
+    ghost use Rattle.text_rules.specs.BadLine.{bad_at, bad_text, header_forms, event_forms};
+    ghost use Rattle.text_rules.specs.BadLine.Why.{Cut};
+    ghost use Rattle.schedule_text.specs.LineAnswer.{why_of};
     ghost use Rattle.replay.specs.Due.Place.{Going, Stopped};
     ghost use Rattle.text_rules.specs.ScheduleLine.{header_line, line_of};
-    ghost use Rattle.replay.specs.ReaderView.{place_of, taken_by};
+    ghost use Rattle.replay.specs.ReaderView.{place_of, taken_by, line_taken};
+    ghost use Rattle.text_rules.specs.ReadLine.{header_of};
+    ghost use Rattle.text_rules.specs.ReadEvent.{event_of};
     ghost use Rattle.replay.specs.Outcome.{is_judged};
     ghost use Rattle.replay.specs.Wrote.{IsStop};
 
@@ -65,6 +70,23 @@ impl Reader {
         Ok(Some(status))
     }
 
+    /// Appends the last line of a run that a bad line ends, and gives its status.
+    fn refuse(
+        &mut self,
+        column: usize,
+        reason: LineReason,
+        text: &mut Text,
+    ) -> Result<Option<u8>, NoMemory>
+        ensures text { OnOk result (text.new ≡ text.old ++ bad_text (self.old.lines + 1) column (why_of reason)) }
+        ensures status { IfOk result (λ s. s ≡ Some 3) }
+    {
+        match reason {
+            LineReason::Byte => text.bad(self.lines, column, b"byte")?,
+            LineReason::Short => text.bad(self.lines, column, b"short")?,
+        }
+        Ok(Some(3))
+    }
+
     /// The first line: its numbers make a configuration of one node.
     fn start(&mut self, header: Header, text: &mut Text) -> Result<Option<u8>, NoMemory>
         requires room { self.old.lines < 200_000 }
@@ -73,8 +95,12 @@ impl Reader {
         ensures place { IfOk result (λ s. (with_header self.old (Some header)).place ≡ place_of s self.new) }
         ensures stop { IfOk result IsStop }
     {
-        let Ok(config) = Config::new(header.nodes, header.pages, header.size, header.frames) else {
-            return self.stop(b"bad", 3, text);
+        let config = match Config::new(header.nodes, header.pages, header.size, header.frames) {
+            Ok(config) => config,
+            Err(fault) => {
+                text.bad_header(fault)?;
+                return Ok(Some(3));
+            }
         };
         if config.nodes() != 1 {
             return self.stop(b"later", 8, text);
@@ -115,6 +141,36 @@ impl Reader {
         }
     }
 
+    /// The first line, whole or of so many bytes that it is in no grammar.
+    fn judge_header(&mut self, text: &mut Text) -> Result<Option<u8>, NoMemory>
+        requires room { self.old.lines < 200_000 }
+        ensures text { OnOk result (text.new ≡ text.old ++ (with_header self.old (header_of self.old.part)).text) }
+        ensures place { IfOk result (λ s. (with_header self.old (header_of self.old.part)).place ≡ place_of s self.new) }
+        ensures stop { IfOk result IsStop }
+    {
+        match read_header(self.part.as_slice()) {
+            Ok(header) => self.start(header, text),
+            Err(LineFault::BadLine { column, reason }) => self.refuse(column, reason, text),
+            Err(LineFault::NoMemory) => Err(NoMemory),
+        }
+    }
+
+    /// A further line.
+    fn judge_event(&mut self, text: &mut Text) -> Result<Option<u8>, NoMemory>
+        requires room { self.old.lines < 200_000 }
+        requires node { IsSome self.old.single }
+        requires empty { text.old ≡ [] }
+        ensures text { OnOk result (text.new ≡ (line_taken self.old self.old.single (event_of self.old.part)).text) }
+        ensures place { IfOk result (λ s. (line_taken self.old self.old.single (event_of self.old.part)).place ≡ place_of s self.new) }
+        ensures stop { IfOk result IsStop }
+    {
+        match read_line(self.alloc, self.part.as_slice()) {
+            Ok(event) => self.run(&event, text),
+            Err(LineFault::BadLine { column, reason }) => self.refuse(column, reason, text),
+            Err(LineFault::NoMemory) => Err(NoMemory),
+        }
+    }
+
     /// A whole line, or one of so many bytes that it is in no grammar.
     #[tactic(auto, unfolding(crate::specs::Due::judged))]
     fn judge(&mut self, text: &mut Text) -> Result<Option<u8>, NoMemory>
@@ -125,16 +181,9 @@ impl Reader {
         ensures stop { IfOk result IsStop }
     {
         if self.node.is_none() {
-            return match read_header(self.part.as_slice()) {
-                Some(header) => self.start(header, text),
-                None => self.stop(b"bad", 3, text),
-            };
+            return self.judge_header(text);
         }
-        match read_line(self.alloc, self.part.as_slice())? {
-            Line::Good(event) => self.run(&event, text),
-            Line::Bad => self.stop(b"bad", 3, text),
-            Line::Other => self.stop(b"later", 8, text),
-        }
+        self.judge_event(text)
     }
 
     /// One byte more. It gives a status where the run is over.
@@ -167,22 +216,49 @@ impl Reader {
         ensures judged { IfOk result (λ s. IsTrue (is_judged s)) }
     {
         if self.node.is_none() {
-            text.last(b"bad", self.lines)?;
+            self.cut_header(text)?;
             return Ok(3);
         }
         if self.part.is_empty() {
             text.end(self.lines.saturating_sub(1), self.commits)?;
             return Ok(0);
         }
-        match read_line(self.alloc, self.part.as_slice())? {
-            Line::Other => {
-                text.last(b"later", self.lines)?;
-                Ok(8)
-            }
-            _ => {
-                text.last(b"bad", self.lines)?;
-                Ok(3)
-            }
+        self.cut_event(text)?;
+        Ok(3)
+    }
+
+    /// Appends the last line of a run whose first line no newline ends.
+    fn cut_header(&self, text: &mut Text) -> Result<(), NoMemory>
+        ensures { OnOk result (text.new ≡ text.old ++ bad_line self.now.lines (bad_at false header_forms self.now.part)) }
+    {
+        match read_header(self.part.as_slice()) {
+            Ok(_) => self.cut(text),
+            Err(LineFault::BadLine { column, reason }) => match reason {
+                LineReason::Byte => text.bad(self.lines, column, b"byte"),
+                LineReason::Short => self.cut(text),
+            },
+            Err(LineFault::NoMemory) => Err(NoMemory),
         }
+    }
+
+    /// The same, of a further line.
+    fn cut_event(&self, text: &mut Text) -> Result<(), NoMemory>
+        ensures { OnOk result (text.new ≡ text.old ++ bad_line self.now.lines (bad_at false event_forms self.now.part)) }
+    {
+        match read_line(self.alloc, self.part.as_slice()) {
+            Ok(_event) => self.cut(text),
+            Err(LineFault::BadLine { column, reason }) => match reason {
+                LineReason::Byte => text.bad(self.lines, column, b"byte"),
+                LineReason::Short => self.cut(text),
+            },
+            Err(LineFault::NoMemory) => Err(NoMemory),
+        }
+    }
+
+    /// The column behind the last byte of a line that no newline ends.
+    fn cut(&self, text: &mut Text) -> Result<(), NoMemory>
+        ensures { OnOk result (text.new ≡ text.old ++ bad_text (self.now.lines + 1) (length self.now.part + 1) Cut) }
+    {
+        text.bad(self.lines, self.part.len() + 1, b"cut")
     }
 }

@@ -13,8 +13,8 @@ pub fn row_of_the_plain_path()
 pub fn row_of_stops()
     ensures second_begin { (due second_begin).text ≡ codes "> pcl 1 1 1 8 4\n> begin 0\nbegun 0.1.1\nlater 3\n" }
     ensures frames { (due frames_used_up).text ≡ codes "> pcl 1 1 2 8 2\n> begin 0\nbegun 0.1.1\n> write 0.1.1 0 0 01\ndone 0.1.1 0 0\nlater 4\n" }
-    ensures bad_line { (due bad_line).text ≡ codes "> pcl 1 1 1 8 4\n> begin 0\nbegun 0.1.1\nbad 3\n" }
-    ensures empty { (due []).text ≡ codes "bad 1\n" }
+    ensures bad_line { (due bad_line).text ≡ codes "> pcl 1 1 1 8 4\n> begin 0\nbegun 0.1.1\nbad 3 12 byte\n" }
+    ensures empty { (due []).text ≡ codes "bad 1 1 cut\n" }
 {}
 
 /// The three refusals in their order.

@@ -1,12 +1,13 @@
-ghost use Rattle.std.specs.Prelude.{◌≡◌, ◌++◌, [], codes, OnOk};
+ghost use Rattle.std.specs.Prelude.{◌≡◌, ◌+◌, ◌++◌, [], codes, OnOk};
 ghost use Rattle.text_rules.specs.ScheduleLine.{spaced, bytes_text};
 ghost use Rattle.text_rules.specs.TraceText.{spaced_tx, reply_line, reason_text, echo_text, end_text, ended};
 ghost use Rattle.pcl_base.specs.declared.reply.Reply.TheVariants.{Begun, Committed, Value, Done, Refused};
+ghost use Rattle.text_rules.specs.BadLine.{bad_header_text};
 ghost use Rattle.replay.specs.Due.{last_line};
 ghost use Rattle.replay.specs.NodeView.{IsMet};
 
 use itoa::Buffer;
-use pcl_base::{NoMemory, Reason, TxId};
+use pcl_base::{ConfigFault, NoMemory, Reason, TxId};
 use std::alloc::Global;
 use std::marker::Model;
 
@@ -156,6 +157,31 @@ impl Text {
             Reason::NoPage => self.push(b"refused 6 NoPage\n"),
             Reason::BadRange => self.push(b"refused 7 BadRange\n"),
             _ => unreachable!(),
+        }
+    }
+
+    /// Appends the last line of a run that a bad line ends: the number of that line, which is the one
+    /// after those that were read, the column and why.
+    pub(crate) fn bad(&mut self, lines: u32, column: usize, why: &[u8]) -> Result<(), NoMemory>
+        ensures { OnOk result (self.new ≡ self.old ++ ended (codes "bad" ++ spaced (lines + 1) ++ spaced column ++ codes " " ++ why.now)) }
+    {
+        self.push(b"bad")?;
+        self.push_number(lines as u64 + 1)?;
+        self.push_number(column as u64)?;
+        self.push(b" ")?;
+        self.push(why)?;
+        self.push(b"\n")
+    }
+
+    /// Appends the last line of a run whose header's numbers are no configuration.
+    pub(crate) fn bad_header(&mut self, fault: ConfigFault) -> Result<(), NoMemory>
+        ensures { OnOk result (self.new ≡ self.old ++ bad_header_text fault) }
+    {
+        match fault {
+            ConfigFault::BadNodes => self.push(b"bad 1 0 BadNodes\n"),
+            ConfigFault::BadPages => self.push(b"bad 1 0 BadPages\n"),
+            ConfigFault::BadSize => self.push(b"bad 1 0 BadSize\n"),
+            ConfigFault::BadFrames => self.push(b"bad 1 0 BadFrames\n"),
         }
     }
 

@@ -1,4 +1,4 @@
-use Rattle.replay.proofs.RanLemmas.{judged_outcome, source_outcome, sink_outcome, memory_outcome}
+use Rattle.replay.proofs.RanLemmas.{judged_outcome}
 use Rattle.replay.proofs.run.replay.Goals as goal
 
 pub returns-in-Ok : goal.returns-in-Ok

@@ -1,6 +1,5 @@
-use Rattle.std.proofs.Common.{◌≡◌, ◌++◌, length, take, get_or, sym, subst, ap, ◌∙◌, arith}
+use Rattle.std.proofs.Common.{sym, subst, ap, ◌∙◌, arith}
 use Rattle.std.specs.Io.KnownBytes.{Appends}
-use Rattle.replay.specs.Due.{read_from, fed}
 use Rattle.replay.specs.Due.Place.{Going}
 use Rattle.replay.specs.ReaderView.{place_of}
 use Rattle.replay.specs.Outcome.{AppendsPart}

@@ -1,5 +1,4 @@
-use Rattle.std.proofs.Common.{◌≡◌, ◌+◌, ◌-◌, ◌*◌, ◌≤◌, [], length, ap, sym, subst, ◌∙◌, arith}
-use Rattle.replay.specs.SingleRun.{published}
+use Rattle.std.proofs.Common.{◌≡◌, ◌+◌, ◌-◌, ◌*◌, length, ap, sym, subst, ◌∙◌, arith}
 use Rattle.replay.specs.NodeView.{IsBelow, still}
 use Rattle.replay.proofs.NodeLemmas.{below_published}
 use Rattle.replay.proofs.node.Node.publish.Goals as goal

@@ -1,4 +1,4 @@
-use Rattle.std.proofs.Common.{◌≡◌, ◌++◌, [], sym, ap, ◌∙◌, Some, is_some}
+use Rattle.std.proofs.Common.{◌≡◌, ◌++◌, sym, ap, ◌∙◌, Some, is_some}
 use Rattle.text_rules.specs.ScheduleLine.{line_of}
 use Rattle.text_rules.specs.TraceText.{echo_text}
 use Rattle.replay.specs.SingleRun.{step}
