@@ -1,6 +1,8 @@
 //! The program: `run` over standard input and standard output.
 #![tactic(auto)]
 
+mod forms;
+mod make;
 mod std_sink;
 mod std_source;
 #[cfg(test)]

@@ -65,3 +65,108 @@ fn sink_fails_at_each_call(rt: HostRuntime) -> Result<(), Fail> {
     }
     Ok(())
 }
+
+const FOUR_LINES: &[u8] = b"pcl 1 2 4 8 4\nbegin 1\nbegin 1\nread 1.1.1 1\nwrite 1.1.2 3 0 5f\n";
+
+/// The status and the text of some words without input, where the sink takes so many bytes a call
+/// and the call of this number fails.
+fn made(
+    alloc: Global,
+    words: &[&str],
+    piece: usize,
+    failing_write: u64,
+) -> Result<(u8, Vec<u8>), Fail>
+    requires { 1 ≤ piece }
+{
+    let mut given = Vec::new(alloc);
+    for word in words {
+        given.push(String::from_str(alloc, word)?)?;
+    }
+    let mut input = MemSource::new(Vec::new(alloc), 1, Vec::new(alloc));
+    let mut output = MemSink::open(alloc, 1_000_000, piece, vec![in alloc; failing_write]?)?;
+    let status = run(alloc, &given, &mut input, &mut output);
+    Ok((status, Vec::from_slice(alloc, output.bytes())?))
+}
+
+#[test]
+fn generated_schedule(rt: HostRuntime) -> Result<(), Fail> {
+    let (status, text) = made(
+        rt.alloc(),
+        &["make", "1", "4", "2", "4", "8", "4"],
+        1_000_000,
+        0,
+    )?;
+    assert_eq!(rt; status, 0);
+    assert_eq!(rt; text.as_slice(), FOUR_LINES);
+    Ok(())
+}
+
+#[test]
+fn sink_fails_while_a_schedule_is_made(rt: HostRuntime) -> Result<(), Fail> {
+    for call in 1..10 {
+        let (status, text) = made(rt.alloc(), &["make", "1", "4", "2", "4", "8", "4"], 7, call)?;
+        assert_eq!(rt; status, 5);
+        assert!(rt; FOUR_LINES.starts_with(text.as_slice()));
+    }
+    Ok(())
+}
+
+/// The number of lines and of crashes of a schedule of these words, made twice.
+fn lines_and_crashes(alloc: Global, words: &[&str]) -> Result<(usize, usize), Fail> {
+    let (_, text) = made(alloc, words, 65_536, 0)?;
+    let (_, again) = made(alloc, words, 65_536, 0)?;
+    if text != again {
+        return Err("another text".into());
+    }
+    let lines = text.iter().filter(|b| **b == b'\n').count();
+    let crashes = text
+        .split(|b| *b == b'\n')
+        .filter(|line| line.starts_with(b"crash "))
+        .count();
+    Ok((lines, crashes))
+}
+
+#[test]
+fn realistic_run(rt: HostRuntime) -> Result<(), Fail> {
+    let found = lines_and_crashes(rt.alloc(), &["make", "7", "5000", "4", "1000", "512", "64"])?;
+    assert_eq!(rt; found, (5_001, 2));
+    Ok(())
+}
+
+#[test]
+fn long_generated_run(rt: HostRuntime) -> Result<(), Fail> {
+    let (lines, _) = lines_and_crashes(
+        rt.alloc(),
+        &["make", "3", "20000", "8", "1000", "512", "64"],
+    )?;
+    assert_eq!(rt; lines, 20_001);
+    Ok(())
+}
+
+#[test]
+fn words_that_make_nothing(rt: HostRuntime) -> Result<(), Fail> {
+    let table: [[&str; 7]; 14] = [
+        ["make", "65536", "4", "2", "4", "8", "4"],
+        ["make", "1", "0", "2", "4", "8", "4"],
+        ["make", "1", "200000", "2", "4", "8", "4"],
+        ["make", "1", "4", "0", "4", "8", "4"],
+        ["make", "1", "4", "17", "4", "8", "4"],
+        ["make", "1", "4", "2", "0", "8", "4"],
+        ["make", "1", "4", "2", "65537", "8", "4"],
+        ["make", "1", "4", "2", "4", "7", "4"],
+        ["make", "1", "4", "2", "4", "4097", "4"],
+        ["make", "1", "4", "2", "4", "8", "1"],
+        ["make", "01", "4", "2", "4", "8", "4"],
+        ["make", "+1", "4", "2", "4", "8", "4"],
+        ["make", "", "4", "2", "4", "8", "4"],
+        ["Make", "1", "4", "2", "4", "8", "4"],
+    ];
+    for words in table {
+        let (status, text) = made(rt.alloc(), words.as_slice(), 1_000_000, 0)?;
+        assert_eq!(rt; status, 2);
+        assert!(rt; text.starts_with(b"usage: "));
+    }
+    let (status, _) = made(rt.alloc(), &["make", "1", "4", "2", "4", "8"], 1_000_000, 0)?;
+    assert_eq!(rt; status, 2);
+    Ok(())
+}

@@ -1,7 +1,12 @@
-ghost use Rattle.std.specs.Prelude.{◌≡◌, map, string_bytes, false, IsTrue};
+ghost use Rattle.std.specs.Prelude.{◌≡◌, Some, map, string_bytes, false, IsTrue};
+ghost use Rattle.text_rules.specs.Generator.{made_text};
 ghost use Rattle.pcl_cli.specs.Words.{is_replay as is_replay_spec, IsRefused};
+ghost use Rattle.pcl_cli.specs.MakeWords.{Job, job_of as job_of_spec, is_form};
+ghost use Rattle.pcl_cli.specs.MakeText.{IsMade};
 ghost use Rattle.replay.specs.Outcome.{Outcome};
 
+use crate::forms::job_of;
+use crate::make::make;
 use pcl_base::{Sink, Source};
 use replay::{replay, write_all};
 use std::alloc::Global;
@@ -12,9 +17,11 @@ const USAGE: &[u8] =
 
 /// Does the job that the words ask for, and answers the exit status.
 ///
-/// The one form of words is `replay` today: it runs the schedule that the source gives, with the
-/// statuses of [`replay`]. Any other words are answered by the usage line and status 2, or by 5
-/// where the sink failed.
+/// The words `replay` run the schedule that the source gives, with the statuses of [`replay`]. The
+/// words `make SEED LINES NODES PAGES SIZE FRAMES` write a generated schedule and read nothing; the
+/// status is 0, or 5 where the sink failed, or 9 for want of memory. SEED is 0 to 65,535, LINES 1
+/// to 199,999, and the other four numbers are those of a configuration. Any other words are answered
+/// by the usage line and status 2, or by 5 where the sink failed.
 pub fn run<I: Source, O: Sink>(
     alloc: Global,
     words: &Vec<String>,
@@ -22,11 +29,15 @@ pub fn run<I: Source, O: Sink>(
     output: &mut O,
 ) -> u8
     ensures replay { IsTrue (is_replay_spec (map (λ w. string_bytes w) words.now.items)) → Outcome (I.left input.old) (I.left input.new) (O.written output.old) (O.written output.new) (I.faults input.old) (I.faults input.new) (O.faults output.old) (O.faults output.new) result }
-    ensures usage { is_replay_spec (map (λ w. string_bytes w) words.now.items) ≡ false → IsRefused (O.written output.old) (O.written output.new) (O.faults output.old) (O.faults output.new) result }
+    ensures make { (j : Job) → job_of_spec (map (λ w. string_bytes w) words.now.items) ≡ Some j → IsMade (O.written output.old) (O.written output.new) (O.faults output.old) (O.faults output.new) result (made_text j.sizes j.seed j.lines) }
+    ensures usage { is_form (map (λ w. string_bytes w) words.now.items) ≡ false → IsRefused (O.written output.old) (O.written output.new) (O.faults output.old) (O.faults output.new) result }
     ensures untouched { is_replay_spec (map (λ w. string_bytes w) words.now.items) ≡ false → input.new ≡ input.old }
 {
     if is_replay(words) {
         return replay(alloc, input, output);
+    }
+    if let Some(job) = job_of(words) {
+        return make(alloc, &job, output);
     }
     refuse(output)
 }
