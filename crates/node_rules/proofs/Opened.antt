@@ -11,7 +11,7 @@ use Rattle.run_rules.specs.Script.{moments_of, moments, script_from}
 use Rattle.run_rules.specs.Serial.{serial}
 use Rattle.run_rules.specs.Taking.{commit_point, wrote, hear, take}
 use Rattle.run_rules.specs.Views.{count_from, since_after, born_after, next, reopen, same_numbers, same_flags, follows}
-use Rattle.text_rules.specs.ReadLine.{number_at, spaced_at, pointed_at, tx_at, bytes_of, begin_of, read_of, write_of, commit_of, event_of, header_of}
+use Rattle.text_rules.specs.ReadLine.{number_at, spaced_at, pointed_at, tx_at, bytes_of, begin_of, read_of, write_of, commit_of, header_of}
 use Rattle.node_rules.specs.AccessRule.{make_room, take_slot, take_private, take_frames, perform, access_in, access, bring, granted, on_grant, kinds_on, on_revoke}
 use Rattle.node_rules.specs.BufferRule.{slot_in, private_in, fits, last_to_go, change_slot, place, private, touch, pin, unpin, install as install_of_bufferrule, clean, evict, change_private, fill, change, discard, publish}
 use Rattle.node_rules.specs.CopyRule.{copy_for}
@@ -34,5 +34,5 @@ use Rattle.node_rules.specs.Words.{among}
 use Rattle.node_rules.specs.Work.{for_each, write_back}
 
 unfoldable pub node_rules : Unit {0}
-unfolding one_send all_sends heard after_entry account_from without_first change_first first_lost durable_fault written_over all_current link_at put_link lose view_of_epoch install ran_on after first_fault entries_of ranges_at reached redone greatest records_in redo worked raised_from run_from moments_of moments script_from serial commit_point wrote hear take count_from since_after born_after next reopen same_numbers same_flags follows number_at spaced_at pointed_at tx_at bytes_of begin_of read_of write_of commit_of event_of header_of make_room take_slot take_private take_frames perform access_in access bring granted on_grant kinds_on on_revoke slot_in private_in fits last_to_go change_slot place private touch pin unpin install_of_bufferrule clean evict change_private fill change discard publish copy_for on_disk records_on_disk cuttable done stopped stopped_in insert_page written_pages commit_record at_version_end endings closed abort commit redo_page complete get_partition install_partition install_view on_report judge mode_of ask takes_change end_tx register returned reported reported_right purge first_upgrade candidate gives_right hold_alone revocations turn settle_within settle pages_from open_table entry_in entries_with start_node first_node cover runs_at put_runs take_message do_event nodestep begin with_serial lock_on put_lock kind_on change_open add wait set_kind close_tx end_pages carry_out settle_page enter do_access on_release tell_end clean_unserved refusal locks_in all_locks all_waits report own_report gather_locks gather_rights gather_waits gather missing right_on accept change_right add_reader end_reader spend last_told among for_each write_back
+unfolding one_send all_sends heard after_entry account_from without_first change_first first_lost durable_fault written_over all_current link_at put_link lose view_of_epoch install ran_on after first_fault entries_of ranges_at reached redone greatest records_in redo worked raised_from run_from moments_of moments script_from serial commit_point wrote hear take count_from since_after born_after next reopen same_numbers same_flags follows number_at spaced_at pointed_at tx_at bytes_of begin_of read_of write_of commit_of header_of make_room take_slot take_private take_frames perform access_in access bring granted on_grant kinds_on on_revoke slot_in private_in fits last_to_go change_slot place private touch pin unpin install_of_bufferrule clean evict change_private fill change discard publish copy_for on_disk records_on_disk cuttable done stopped stopped_in insert_page written_pages commit_record at_version_end endings closed abort commit redo_page complete get_partition install_partition install_view on_report judge mode_of ask takes_change end_tx register returned reported reported_right purge first_upgrade candidate gives_right hold_alone revocations turn settle_within settle pages_from open_table entry_in entries_with start_node first_node cover runs_at put_runs take_message do_event nodestep begin with_serial lock_on put_lock kind_on change_open add wait set_kind close_tx end_pages carry_out settle_page enter do_access on_release tell_end clean_unserved refusal locks_in all_locks all_waits report own_report gather_locks gather_rights gather_waits gather missing right_on accept change_right add_reader end_reader spend last_told among for_each write_back
 node_rules = tt

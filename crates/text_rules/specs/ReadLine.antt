@@ -125,14 +125,6 @@ abbrev pub event_after : Option (List ℕ) → (List ℕ → Option Event) → O
 event_after (Some rest) read other = read rest
 event_after None read other = other
 
--- the event of a line
-unfoldable pub event_of : List ℕ → Option Event
-event_of bs =
-    event_after (after_word (codes "begin ") bs) begin_of
-    (event_after (after_word (codes "read ") bs) read_of
-    (event_after (after_word (codes "write ") bs) write_of
-    (event_after (after_word (codes "commit ") bs) commit_of None)))
-
 -- the numbers of a first line
 unfoldable pub header_of : List ℕ → Option Header
 header_of bs = do

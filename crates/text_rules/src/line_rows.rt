@@ -1,6 +1,7 @@
 ghost use Rattle.std.specs.Prelude.{◌≡◌, ◌++◌, ◌∷◌, [], codes, Some, None};
 ghost use Rattle.text_rules.specs.ScheduleLine.{line_of, header_line};
-ghost use Rattle.text_rules.specs.ReadLine.{event_of, header_of};
+ghost use Rattle.text_rules.specs.ReadEvent.{event_of};
+ghost use Rattle.text_rules.specs.ReadLine.{header_of};
 ghost use Rattle.text_rules.specs.TraceText.{entry_text, trace_text};
 ghost use Rattle.text_rules.specs.LineRows.{a_write, an_empty_write, a_view, a_read, a_refusal, a_send, a_header};
 
@@ -17,7 +18,7 @@ pub fn row_of_reading()
     ensures header { header_of (codes "pcl 1 1 1 8 4") ≡ Some a_header }
     ensures write { event_of (codes "write 0.1.12 65535 4095 beef") ≡ Some a_write }
     ensures empty { event_of (codes "write 0.1.12 0 0 -") ≡ Some an_empty_write }
-    ensures other { event_of (codes "view 10 0,10") ≡ None }
+    ensures view { event_of (codes "view 10 0,10") ≡ Some a_view }
 {}
 
 /// Lines that are outside the grammar.
