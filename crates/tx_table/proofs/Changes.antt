@@ -11,10 +11,10 @@ use Rattle.tx_table.proofs.Serials.{linked_pushed, values_pushed, with_serial_lo
 use Rattle.tx_table.proofs.Counting.{total_pushed, total_set, total_gone, total_least}
 
 -- a transaction that is open stands under its serial
-pub open_there : (last : ℕ) (es : List (ℕ × OpenTx)) (s : OpenTxs) (t : TxId) → IsLinked last es → values_of es ≡ s.txs → is_open s t ≡ true
+pub open_there : (low last : ℕ) (es : List (ℕ × OpenTx)) (s : OpenTxs) (t : TxId) → IsLinked low last es → values_of es ≡ s.txs → is_open s t ≡ true
     → open_at s t ≡ lookup (nat_eq t.serial) es
-open_there last es s t linked same there =
-    open_found s t there ∙ (ap (λ xs. with_serial xs t.serial) (sym same) ∙ with_serial_lookup last t.serial es linked)
+open_there low last es s t linked same there =
+    open_found s t there ∙ (ap (λ xs. with_serial xs t.serial) (sym same) ∙ with_serial_lookup low last t.serial es linked)
 
 -- a new transaction holds nothing and waits for nothing
 pub counted_pushed : (last held waiting : ℕ) (o : OpenTx) (es : List (ℕ × OpenTx)) → IsCounted last es held waiting
@@ -26,7 +26,7 @@ counted_pushed last held waiting o es kept new =
     let no_locks : locks_in o ≡ 0 = ap locks_in new in
     let no_waits : waits_in o ≡ 0 = ap waits_in new in
     record {
-      linked = linked_pushed last o es kept.linked (ap (λ (x : OpenTx). x.serial) new);
+      linked = linked_pushed 0 last o es (omega arith) kept.linked (ap (λ (x : OpenTx). x.serial) new);
       locks = omega (arith, locks, no_locks, kept.locks);
       waits = omega (arith, waits, no_waits, kept.waits);
       small = kept.small;
@@ -40,7 +40,7 @@ counted_set last s held waiting later_held later_waiting v w es kept there seria
     let all_locks = total_set locks_in s v w es there in
     let all_waits = total_set waits_in s v w es there in
     record {
-      linked = linked_set last s w es (serial ∙ serial_found last s v es kept.linked there) kept.linked;
+      linked = linked_set 0 last s w es (serial ∙ serial_found 0 last s v es kept.linked there) kept.linked;
       locks = omega (arith, all_locks, locks, kept.locks);
       waits = omega (arith, all_waits, waits, kept.waits);
       small = small;
@@ -55,7 +55,7 @@ counted_gone last s held waiting later_held later_waiting v es kept there locks 
     let all_waits = total_gone waits_in s v es there in
     let small = kept.small in
     record {
-      linked = linked_removed last s es kept.linked;
+      linked = linked_removed 0 last s es kept.linked;
       locks = omega (arith, all_locks, locks, kept.locks);
       waits = omega (arith, all_waits, waits, kept.waits);
       small = omega (arith, small, locks, waits);
@@ -84,9 +84,9 @@ grown_fits last s held waiting room v w es xs kept there same grown left =
     omega (arith, locks, waits, held_is, waiting_is, grown, left)
 
 -- a list made of the serials alone
-pub serials_of : {X : Type 0} (f : ℕ → X) (last : ℕ) (es : List (ℕ × OpenTx)) → IsLinked last es → map (λ e. f e.0) es ≡ map (λ x. f x.serial) (values_of es)
-serials_of f last [] linked = refl
-serials_of f last (e ∷ es) linked = λ i. f (sym linked.1 i) ∷ serials_of f last es linked.3 i
+pub serials_of : {X : Type 0} (f : ℕ → X) (low last : ℕ) (es : List (ℕ × OpenTx)) → IsLinked low last es → map (λ e. f e.0) es ≡ map (λ x. f x.serial) (values_of es)
+serials_of f low last [] linked = refl
+serials_of f low last (e ∷ es) linked = λ i. f (sym linked.2 i) ∷ serials_of f e.0 last es linked.3 i
 
 -- what is said of what is there
 pub if_ok : {X E : Type 0} (P Q : X → Type 0) (r : Result X E) → ((x : X) → P x → Q x) → IfOk r P → IfOk r Q

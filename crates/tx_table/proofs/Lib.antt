@@ -3,3 +3,4 @@ pub mod Locks
 pub mod Placed
 pub mod Counting
 pub mod Changes
+pub mod Numbers

@@ -22,28 +22,29 @@ none_rest : (b : Bool) (x : OpenTx) (l : Option OpenTx) → cond b (Some x) l �
 none_rest true x l none = absurd (cc)
 none_rest false x l none = (refl, none)
 
--- a serial above the last is absent
-pub absent_above : (last s : ℕ) (es : List (ℕ × OpenTx)) → IsLinked last es → last < s → lookup (nat_eq s) es ≡ None
-absent_above last s [] linked above = refl
-absent_above last s (e ∷ es) linked above =
-    let low : e.0 ≤ last = linked.0 in
+-- a serial that isn't above the lowest is absent
+pub absent_below : (low last s : ℕ) (es : List (ℕ × OpenTx)) → IsLinked low last es → s ≤ low → lookup (nat_eq s) es ≡ None
+absent_below low last s [] linked below = refl
+absent_below low last s (e ∷ es) linked below =
+    let high : low < e.0 = linked.0 in
     let other : s ≢ e.0 = λ same. omega arith in
-    ap (λ b. cond b (Some e.1) (lookup (nat_eq s) es)) (other_number s e.0 other) ∙ absent_above last s es linked.3 above
+    ap (λ b. cond b (Some e.1) (lookup (nat_eq s) es)) (other_number s e.0 other) ∙ absent_below e.0 last s es linked.3 (omega arith)
 
-absent_pushed : (k s : ℕ) (o : OpenTx) (es : List (ℕ × OpenTx)) → k ≢ s → lookup (nat_eq k) es ≡ None → lookup (nat_eq k) (es ++ (s, o) ∷ []) ≡ None
-absent_pushed k s o [] other none = ap (λ b. cond b (Some o) None) (other_number k s other)
-absent_pushed k s o (e ∷ es) other none =
-    let parts = none_rest (nat_eq k e.0) e.1 (lookup (nat_eq k) es) none in
-    ap (λ b. cond b (Some e.1) (lookup (nat_eq k) (es ++ (s, o) ∷ []))) parts.0 ∙ absent_pushed k s o es other parts.1
+-- a serial above the last is absent
+pub absent_above : (low last s : ℕ) (es : List (ℕ × OpenTx)) → IsLinked low last es → last < s → lookup (nat_eq s) es ≡ None
+absent_above low last s [] linked above = refl
+absent_above low last s (e ∷ es) linked above =
+    let low : e.0 ≤ last = linked.1 in
+    let other : s ≢ e.0 = λ same. omega arith in
+    ap (λ b. cond b (Some e.1) (lookup (nat_eq s) es)) (other_number s e.0 other) ∙ absent_above e.0 last s es linked.3 above
 
 -- the next serial goes last
-pub linked_pushed : (last : ℕ) (o : OpenTx) (es : List (ℕ × OpenTx)) → IsLinked last es → o.serial ≡ last + 1
-    → IsLinked (last + 1) (es ++ (last + 1, o) ∷ [])
-linked_pushed last o [] linked serial = (omega arith, serial, refl, tt)
-linked_pushed last o (e ∷ es) linked serial =
-    let low : e.0 ≤ last = linked.0 in
-    let other : e.0 ≢ last + 1 = λ same. omega arith in
-    (omega arith, linked.1, absent_pushed e.0 (last + 1) o es other linked.2, linked_pushed last o es linked.3 serial)
+pub linked_pushed : (low last : ℕ) (o : OpenTx) (es : List (ℕ × OpenTx)) → low ≤ last → IsLinked low last es → o.serial ≡ last + 1
+    → IsLinked low (last + 1) (es ++ (last + 1, o) ∷ [])
+linked_pushed low last o [] within linked serial = (omega arith, omega arith, serial, tt)
+linked_pushed low last o (e ∷ es) within linked serial =
+    let below : e.0 ≤ last = linked.1 in
+    (linked.0, omega arith, linked.2, linked_pushed e.0 last o es below linked.3 serial)
 
 pub values_pushed : (s : ℕ) (o : OpenTx) (es : List (ℕ × OpenTx)) → values_of (es ++ (s, o) ∷ []) ≡ values_of es ++ o ∷ []
 values_pushed s o [] = refl
@@ -54,62 +55,58 @@ found_case true c x l m test rest = ap (λ a. pick a (Some x) l) test
 found_case false c x l m test rest = ap (λ a. pick a (Some x) l) test ∙ rest
 
 -- the transaction of a serial stands under it
-pub with_serial_lookup : (last s : ℕ) (es : List (ℕ × OpenTx)) → IsLinked last es → with_serial (values_of es) s ≡ lookup (nat_eq s) es
+pub with_serial_lookup : (low last s : ℕ) (es : List (ℕ × OpenTx)) → IsLinked low last es → with_serial (values_of es) s ≡ lookup (nat_eq s) es
 unfolding with_serial
-with_serial_lookup last s [] linked = refl
-with_serial_lookup last s (e ∷ es) linked =
+with_serial_lookup low last s [] linked = refl
+with_serial_lookup low last s (e ∷ es) linked =
     found_case (nat_eq s e.0) (e.1.serial == s) e.1 (with_serial (values_of es) s) (lookup (nat_eq s) es)
-    (same_test e.1.serial s e.0 (nat_eq s e.0) linked.1 refl) (with_serial_lookup last s es linked.3)
+    (same_test e.1.serial s e.0 (nat_eq s e.0) linked.2 refl) (with_serial_lookup e.0 last s es linked.3)
 
 kept_case : (b c : Bool) (x : OpenTx) (l m : List OpenTx) → c ≡ b → b ≡ false → l ≡ m → cond (not c) (x ∷ l) l ≡ x ∷ m
 kept_case b c x l m test out rest = ap (λ a. cond (not a) (x ∷ l) l) (test ∙ out) ∙ ap (λ k. x ∷ k) rest
 
 -- without an absent serial nothing changes
-filter_absent : (last s : ℕ) (es : List (ℕ × OpenTx)) → IsLinked last es → lookup (nat_eq s) es ≡ None
+filter_absent : (low last s : ℕ) (es : List (ℕ × OpenTx)) → IsLinked low last es → lookup (nat_eq s) es ≡ None
     → filter (λ x. not (x.serial == s)) (values_of es) ≡ values_of es
-filter_absent last s [] linked none = refl
-filter_absent last s (e ∷ es) linked none =
+filter_absent low last s [] linked none = refl
+filter_absent low last s (e ∷ es) linked none =
     let parts = none_rest (nat_eq s e.0) e.1 (lookup (nat_eq s) es) none in
-    kept_case (nat_eq s e.0) (e.1.serial == s) e.1 _ _ (same_test e.1.serial s e.0 (nat_eq s e.0) linked.1 refl) parts.0 (filter_absent last s es linked.3 parts.1)
+    kept_case (nat_eq s e.0) (e.1.serial == s) e.1 _ _ (same_test e.1.serial s e.0 (nat_eq s e.0) linked.2 refl) parts.0 (filter_absent e.0 last s es linked.3 parts.1)
 
 same_from : (s k : ℕ) → nat_eq s k ≡ true → s ≡ k
 same_from s k is = grind (arith, nat_tests)
 
-removed_case : (last s : ℕ) (e : ℕ × OpenTx) (es : List (ℕ × OpenTx)) (b : Bool) → nat_eq s e.0 ≡ b → IsLinked last (e ∷ es)
+removed_case : (low last s : ℕ) (e : ℕ × OpenTx) (es : List (ℕ × OpenTx)) (b : Bool) → nat_eq s e.0 ≡ b → IsLinked low last (e ∷ es)
     → values_of (remove_entry (nat_eq s) es) ≡ filter (λ x. not (x.serial == s)) (values_of es)
     → values_of (cond b es (e ∷ remove_entry (nat_eq s) es)) ≡ filter (λ x. not (x.serial == s)) (e.1 ∷ values_of es)
-removed_case last s e es true is linked rest =
-    let none : lookup (nat_eq s) es ≡ None = ap (λ k. lookup (nat_eq k) es) (same_from s e.0 is) ∙ linked.2 in
-    sym (ap (λ a. cond (not a) (e.1 ∷ filter (λ x. not (x.serial == s)) (values_of es)) (filter (λ x. not (x.serial == s)) (values_of es))) (same_test e.1.serial s e.0 true linked.1 is) ∙ filter_absent last s es linked.3 none)
-removed_case last s e es false is linked rest =
+removed_case low last s e es true is linked rest =
+    let none : lookup (nat_eq s) es ≡ None = ap (λ k. lookup (nat_eq k) es) (same_from s e.0 is) ∙ absent_below e.0 last e.0 es linked.3 (omega arith) in
+    sym (ap (λ a. cond (not a) (e.1 ∷ filter (λ x. not (x.serial == s)) (values_of es)) (filter (λ x. not (x.serial == s)) (values_of es))) (same_test e.1.serial s e.0 true linked.2 is) ∙ filter_absent e.0 last s es linked.3 none)
+removed_case low last s e es false is linked rest =
     ap (λ l. e.1 ∷ l) rest
-    ∙ sym (ap (λ a. cond (not a) (e.1 ∷ filter (λ x. not (x.serial == s)) (values_of es)) (filter (λ x. not (x.serial == s)) (values_of es))) (same_test e.1.serial s e.0 false linked.1 is))
+    ∙ sym (ap (λ a. cond (not a) (e.1 ∷ filter (λ x. not (x.serial == s)) (values_of es)) (filter (λ x. not (x.serial == s)) (values_of es))) (same_test e.1.serial s e.0 false linked.2 is))
 
 -- the transactions without the one of a serial
-pub values_removed : (last s : ℕ) (es : List (ℕ × OpenTx)) → IsLinked last es
+pub values_removed : (low last s : ℕ) (es : List (ℕ × OpenTx)) → IsLinked low last es
     → values_of (remove_entry (nat_eq s) es) ≡ filter (λ x. not (x.serial == s)) (values_of es)
-values_removed last s [] linked = refl
-values_removed last s (e ∷ es) linked = removed_case last s e es (nat_eq s e.0) refl linked (values_removed last s es linked.3)
+values_removed low last s [] linked = refl
+values_removed low last s (e ∷ es) linked = removed_case low last s e es (nat_eq s e.0) refl linked (values_removed e.0 last s es linked.3)
 
-absent_removed_case : (k s : ℕ) (e : ℕ × OpenTx) (es : List (ℕ × OpenTx)) (b : Bool) → nat_eq k e.0 ≡ false → lookup (nat_eq k) es ≡ None
-    → lookup (nat_eq k) (remove_entry (nat_eq s) es) ≡ None → lookup (nat_eq k) (cond b es (e ∷ remove_entry (nat_eq s) es)) ≡ None
-absent_removed_case k s e es true other none rest = none
-absent_removed_case k s e es false other none rest = ap (λ b. cond b (Some e.1) (lookup (nat_eq k) (remove_entry (nat_eq s) es))) other ∙ rest
+-- all serials are above a lower one too
+linked_lower : (low k last : ℕ) (es : List (ℕ × OpenTx)) → low < k → IsLinked k last es → IsLinked low last es
+linked_lower low k last [] lower linked = tt
+linked_lower low k last (e ∷ es) lower linked =
+    let high : k < e.0 = linked.0 in
+    (omega arith, linked.1, linked.2, linked.3)
 
-absent_removed : (k s : ℕ) (es : List (ℕ × OpenTx)) → lookup (nat_eq k) es ≡ None → lookup (nat_eq k) (remove_entry (nat_eq s) es) ≡ None
-absent_removed k s [] none = refl
-absent_removed k s (e ∷ es) none =
-    let parts = none_rest (nat_eq k e.0) e.1 (lookup (nat_eq k) es) none in
-    absent_removed_case k s e es (nat_eq s e.0) parts.0 parts.1 (absent_removed k s es parts.1)
+linked_removed_case : (low last s : ℕ) (e : ℕ × OpenTx) (es : List (ℕ × OpenTx)) (b : Bool) → IsLinked low last (e ∷ es) → IsLinked e.0 last (remove_entry (nat_eq s) es)
+    → IsLinked low last (cond b es (e ∷ remove_entry (nat_eq s) es))
+linked_removed_case low last s e es true linked rest = linked_lower low e.0 last es linked.0 linked.3
+linked_removed_case low last s e es false linked rest = (linked.0, linked.1, linked.2, rest)
 
-linked_removed_case : (last s : ℕ) (e : ℕ × OpenTx) (es : List (ℕ × OpenTx)) (b : Bool) → IsLinked last (e ∷ es) → IsLinked last (remove_entry (nat_eq s) es)
-    → IsLinked last (cond b es (e ∷ remove_entry (nat_eq s) es))
-linked_removed_case last s e es true linked rest = linked.3
-linked_removed_case last s e es false linked rest = (linked.0, linked.1, absent_removed e.0 s es linked.2, rest)
-
-pub linked_removed : (last s : ℕ) (es : List (ℕ × OpenTx)) → IsLinked last es → IsLinked last (remove_entry (nat_eq s) es)
-linked_removed last s [] linked = tt
-linked_removed last s (e ∷ es) linked = linked_removed_case last s e es (nat_eq s e.0) linked (linked_removed last s es linked.3)
+pub linked_removed : (low last s : ℕ) (es : List (ℕ × OpenTx)) → IsLinked low last es → IsLinked low last (remove_entry (nat_eq s) es)
+linked_removed low last s [] linked = tt
+linked_removed low last s (e ∷ es) linked = linked_removed_case low last s e es (nat_eq s e.0) linked (linked_removed e.0 last s es linked.3)
 
 -- a lock at a place is that of the page, or another's
 pub lock_here : (hs : List Held) (p i : ℕ) (d : Held) → i < length hs → (get_or hs i d).page ≡ p → lock_on (drop i hs) p ≡ Some (get_or hs i d)
@@ -144,70 +141,59 @@ open_found s t there = by_own (is_own s t) there
 absent_change_case : (f : OpenTx → OpenTx) (b c : Bool) (x : OpenTx) (l m : List OpenTx) → c ≡ b → b ≡ false → l ≡ m → pick c (f x) x ∷ l ≡ x ∷ m
 absent_change_case f b c x l m test out rest = λ i. pick ((test ∙ out) i) (f x) x ∷ rest i
 
-change_absent : (f : OpenTx → OpenTx) (last s : ℕ) (es : List (ℕ × OpenTx)) → IsLinked last es → lookup (nat_eq s) es ≡ None
+change_absent : (f : OpenTx → OpenTx) (low last s : ℕ) (es : List (ℕ × OpenTx)) → IsLinked low last es → lookup (nat_eq s) es ≡ None
     → change_open f (values_of es) s ≡ values_of es
 unfolding change_open
-change_absent f last s [] linked none = refl
-change_absent f last s (e ∷ es) linked none =
+change_absent f low last s [] linked none = refl
+change_absent f low last s (e ∷ es) linked none =
     let parts = none_rest (nat_eq s e.0) e.1 (lookup (nat_eq s) es) none in
-    absent_change_case f (nat_eq s e.0) (e.1.serial == s) e.1 _ _ (same_test e.1.serial s e.0 (nat_eq s e.0) linked.1 refl) parts.0 (change_absent f last s es linked.3 parts.1)
+    absent_change_case f (nat_eq s e.0) (e.1.serial == s) e.1 _ _ (same_test e.1.serial s e.0 (nat_eq s e.0) linked.2 refl) parts.0 (change_absent f e.0 last s es linked.3 parts.1)
 
 some_same : (x y : OpenTx) → Some x ≡ Some y → x ≡ y
 some_same x y same = cc
 
-changed_case : (f : OpenTx → OpenTx) (last s : ℕ) (v w : OpenTx) (e : ℕ × OpenTx) (es : List (ℕ × OpenTx)) (b : Bool) → nat_eq s e.0 ≡ b → IsLinked last (e ∷ es)
+changed_case : (f : OpenTx → OpenTx) (low last s : ℕ) (v w : OpenTx) (e : ℕ × OpenTx) (es : List (ℕ × OpenTx)) (b : Bool) → nat_eq s e.0 ≡ b → IsLinked low last (e ∷ es)
     → cond b (Some e.1) (lookup (nat_eq s) es) ≡ Some v → w ≡ f v
     → (lookup (nat_eq s) es ≡ Some v → values_of (set_value (nat_eq s) es w) ≡ change_open f (values_of es) s)
     → values_of (cond b ((e.0, w) ∷ es) (e ∷ set_value (nat_eq s) es w)) ≡ change_open f (e.1 ∷ values_of es) s
 unfolding change_open
-changed_case f last s v w e es true is linked there new rest =
-    let none : lookup (nat_eq s) es ≡ None = ap (λ k. lookup (nat_eq k) es) (same_from s e.0 is) ∙ linked.2 in
+changed_case f low last s v w e es true is linked there new rest =
+    let none : lookup (nat_eq s) es ≡ None = ap (λ k. lookup (nat_eq k) es) (same_from s e.0 is) ∙ absent_below e.0 last e.0 es linked.3 (omega arith) in
     let value : w ≡ f e.1 = new ∙ ap f (sym (some_same e.1 v there)) in
-    let here : change_open f (e.1 ∷ values_of es) s ≡ f e.1 ∷ values_of es = λ i. pick (same_test e.1.serial s e.0 true linked.1 is i) (f e.1) e.1 ∷ change_absent f last s es linked.3 none i in
+    let here : change_open f (e.1 ∷ values_of es) s ≡ f e.1 ∷ values_of es = λ i. pick (same_test e.1.serial s e.0 true linked.2 is i) (f e.1) e.1 ∷ change_absent f e.0 last s es linked.3 none i in
     ap (λ x. x ∷ values_of es) value ∙ sym here
-changed_case f last s v w e es false is linked there new rest =
-    let later : change_open f (e.1 ∷ values_of es) s ≡ e.1 ∷ values_of (set_value (nat_eq s) es w) = λ i. pick (same_test e.1.serial s e.0 false linked.1 is i) (f e.1) e.1 ∷ sym (rest there) i in
+changed_case f low last s v w e es false is linked there new rest =
+    let later : change_open f (e.1 ∷ values_of es) s ≡ e.1 ∷ values_of (set_value (nat_eq s) es w) = λ i. pick (same_test e.1.serial s e.0 false linked.2 is i) (f e.1) e.1 ∷ sym (rest there) i in
     sym later
 
 -- the transactions with a change of the one of a serial
-pub values_changed : (f : OpenTx → OpenTx) (last s : ℕ) (v w : OpenTx) (es : List (ℕ × OpenTx)) → IsLinked last es → lookup (nat_eq s) es ≡ Some v → w ≡ f v
+pub values_changed : (f : OpenTx → OpenTx) (low last s : ℕ) (v w : OpenTx) (es : List (ℕ × OpenTx)) → IsLinked low last es → lookup (nat_eq s) es ≡ Some v → w ≡ f v
     → values_of (set_value (nat_eq s) es w) ≡ change_open f (values_of es) s
-values_changed f last s v w [] linked there new = absurd (cc)
-values_changed f last s v w (e ∷ es) linked there new =
-    changed_case f last s v w e es (nat_eq s e.0) refl linked there new (λ later. values_changed f last s v w es linked.3 later new)
+values_changed f low last s v w [] linked there new = absurd (cc)
+values_changed f low last s v w (e ∷ es) linked there new =
+    changed_case f low last s v w e es (nat_eq s e.0) refl linked there new (λ later. values_changed f e.0 last s v w es linked.3 later new)
 
-absent_set_case : (k s : ℕ) (w : OpenTx) (e : ℕ × OpenTx) (es : List (ℕ × OpenTx)) (b : Bool) → nat_eq k e.0 ≡ false → lookup (nat_eq k) es ≡ None
-    → lookup (nat_eq k) (set_value (nat_eq s) es w) ≡ None → lookup (nat_eq k) (cond b ((e.0, w) ∷ es) (e ∷ set_value (nat_eq s) es w)) ≡ None
-absent_set_case k s w e es true other none rest = ap (λ b. cond b (Some w) (lookup (nat_eq k) es)) other ∙ none
-absent_set_case k s w e es false other none rest = ap (λ b. cond b (Some e.1) (lookup (nat_eq k) (set_value (nat_eq s) es w))) other ∙ rest
-
-absent_set : (k s : ℕ) (w : OpenTx) (es : List (ℕ × OpenTx)) → lookup (nat_eq k) es ≡ None → lookup (nat_eq k) (set_value (nat_eq s) es w) ≡ None
-absent_set k s w [] none = refl
-absent_set k s w (e ∷ es) none =
-    let parts = none_rest (nat_eq k e.0) e.1 (lookup (nat_eq k) es) none in
-    absent_set_case k s w e es (nat_eq s e.0) parts.0 parts.1 (absent_set k s w es parts.1)
-
-linked_set_case : (last s : ℕ) (w : OpenTx) (e : ℕ × OpenTx) (es : List (ℕ × OpenTx)) (b : Bool) → nat_eq s e.0 ≡ b → w.serial ≡ s → IsLinked last (e ∷ es)
-    → IsLinked last (set_value (nat_eq s) es w) → IsLinked last (cond b ((e.0, w) ∷ es) (e ∷ set_value (nat_eq s) es w))
-linked_set_case last s w e es true is serial linked rest = (linked.0, serial ∙ same_from s e.0 is, linked.2, linked.3)
-linked_set_case last s w e es false is serial linked rest = (linked.0, linked.1, absent_set e.0 s w es linked.2, rest)
+linked_set_case : (low last s : ℕ) (w : OpenTx) (e : ℕ × OpenTx) (es : List (ℕ × OpenTx)) (b : Bool) → nat_eq s e.0 ≡ b → w.serial ≡ s → IsLinked low last (e ∷ es)
+    → IsLinked e.0 last (set_value (nat_eq s) es w) → IsLinked low last (cond b ((e.0, w) ∷ es) (e ∷ set_value (nat_eq s) es w))
+linked_set_case low last s w e es true is serial linked rest = (linked.0, linked.1, serial ∙ same_from s e.0 is, linked.3)
+linked_set_case low last s w e es false is serial linked rest = (linked.0, linked.1, linked.2, rest)
 
 -- the links hold after a change
-pub linked_set : (last s : ℕ) (w : OpenTx) (es : List (ℕ × OpenTx)) → w.serial ≡ s → IsLinked last es → IsLinked last (set_value (nat_eq s) es w)
-linked_set last s w [] serial linked = tt
-linked_set last s w (e ∷ es) serial linked = linked_set_case last s w e es (nat_eq s e.0) refl serial linked (linked_set last s w es serial linked.3)
+pub linked_set : (low last s : ℕ) (w : OpenTx) (es : List (ℕ × OpenTx)) → w.serial ≡ s → IsLinked low last es → IsLinked low last (set_value (nat_eq s) es w)
+linked_set low last s w [] serial linked = tt
+linked_set low last s w (e ∷ es) serial linked = linked_set_case low last s w e es (nat_eq s e.0) refl serial linked (linked_set e.0 last s w es serial linked.3)
 
-serial_case : (last s : ℕ) (v : OpenTx) (e : ℕ × OpenTx) (es : List (ℕ × OpenTx)) (b : Bool) → nat_eq s e.0 ≡ b → IsLinked last (e ∷ es)
+serial_case : (low last s : ℕ) (v : OpenTx) (e : ℕ × OpenTx) (es : List (ℕ × OpenTx)) (b : Bool) → nat_eq s e.0 ≡ b → IsLinked low last (e ∷ es)
     → cond b (Some e.1) (lookup (nat_eq s) es) ≡ Some v → (lookup (nat_eq s) es ≡ Some v → v.serial ≡ s) → v.serial ≡ s
-serial_case last s v e es true is linked there rest =
-    ap (λ (x : OpenTx). x.serial) (sym (some_same e.1 v there)) ∙ (linked.1 ∙ sym (same_from s e.0 is))
-serial_case last s v e es false is linked there rest = rest there
+serial_case low last s v e es true is linked there rest =
+    ap (λ (x : OpenTx). x.serial) (sym (some_same e.1 v there)) ∙ (linked.2 ∙ sym (same_from s e.0 is))
+serial_case low last s v e es false is linked there rest = rest there
 
 -- the serial of what stands under one
-pub serial_found : (last s : ℕ) (v : OpenTx) (es : List (ℕ × OpenTx)) → IsLinked last es → lookup (nat_eq s) es ≡ Some v → v.serial ≡ s
-serial_found last s v [] linked there = absurd (cc)
-serial_found last s v (e ∷ es) linked there =
-    serial_case last s v e es (nat_eq s e.0) refl linked there (λ later. serial_found last s v es linked.3 later)
+pub serial_found : (low last s : ℕ) (v : OpenTx) (es : List (ℕ × OpenTx)) → IsLinked low last es → lookup (nat_eq s) es ≡ Some v → v.serial ≡ s
+serial_found low last s v [] linked there = absurd (cc)
+serial_found low last s v (e ∷ es) linked there =
+    serial_case low last s v e es (nat_eq s e.0) refl linked there (λ later. serial_found e.0 last s v es linked.3 later)
 
 -- what follows on one outcome
 pub on_ok : {X E : Type 0} (P Q : Type 0) (r : Result X E) → (P → Q) → OnOk r P → OnOk r Q

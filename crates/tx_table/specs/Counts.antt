@@ -33,7 +33,7 @@ wait_count xs = total waits_in xs
 
 -- the transactions are linked, and the numbers that are kept beside them are theirs
 pub record IsCounted (last : ℕ) (es : List (ℕ × OpenTx)) (held waiting : ℕ) : Type 0 where
-  pub linked : IsLinked last es
+  pub linked : IsLinked 0 last es
   pub locks : held ≡ lock_count (values_of es)
   pub waits : waiting ≡ wait_count (values_of es)
   pub small : held + waiting < 2 ^ 64

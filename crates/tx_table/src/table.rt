@@ -2,6 +2,7 @@ ghost use Rattle.std.specs.Prelude.{◌≡◌, ℕ, ◌+◌, ◌-◌, ◌^◌, �
 ghost use Rattle.std.specs.List.{filter};
 ghost use Rattle.std.specs.Option.{option_copied};
 ghost use Rattle.tx_table.specs.Counts.{lock_count, wait_count};
+ghost use Rattle.tx_table.specs.Links.{IsNumbered};
 ghost use Rattle.node_rules.specs.OpenTxs.{OpenTx, OpenTxs, begin, open_at, is_open, is_own, locks_of, held_by, pending_of, name_of, close_tx, with_serial, lock_on, add, wait, set_kind, waits_on};
 
 use crate::open::Open;
@@ -28,7 +29,8 @@ pub enum BeginFault {
     NoMemory,
 }
 
-/// The open transactions of a node since one birth. Contracts see them as a list by serial.
+/// The open transactions of a node since one birth. Contracts see them as a list by serial;
+/// serials rise, so each is the one that its name finds (`numbered`).
 #[derive(Drop)]
 pub struct TxTable {
     alloc: Global,
@@ -114,14 +116,16 @@ impl TxTable {
 
     /// The last serial that was given, `first` minus one at first.
     pub fn last(&self) -> u32
-        ensures { result ≡ self.now.last }
+        ensures value { result ≡ self.now.last }
+        ensures numbered { IsNumbered self.now }
     {
         self.last
     }
 
     /// The number of open transactions.
     pub fn count(&self) -> usize
-        ensures { result ≡ length self.now.txs }
+        ensures value { result ≡ length self.now.txs }
+        ensures numbered { IsNumbered self.now }
     {
         self.txs.len()
     }
@@ -142,14 +146,16 @@ impl TxTable {
 
     /// Whether a transaction's name is one of this node and birth.
     fn is_own(&self, tx: TxId) -> bool
-        ensures { result ≡ is_own self.now tx }
+        ensures value { result ≡ is_own self.now tx }
+        ensures numbered { IsNumbered self.now }
     {
         tx.node == self.node && tx.born == self.born
     }
 
     /// The open transaction of that name.
     fn find(&self, tx: TxId) -> Option<&Open>
-        ensures { option_copied result ≡ open_at self.now tx }
+        ensures value { option_copied result ≡ open_at self.now tx }
+        ensures numbered { IsNumbered self.now }
     {
         if !self.is_own(tx) {
             return None;
@@ -159,14 +165,16 @@ impl TxTable {
 
     /// Whether that transaction is open.
     pub fn is_open(&self, tx: TxId) -> bool
-        ensures { result ≡ is_open self.now tx }
+        ensures value { result ≡ is_open self.now tx }
+        ensures numbered { IsNumbered self.now }
     {
         self.find(tx).is_some()
     }
 
     /// Its locks in the order of first access, none where it isn't open.
     pub fn locks(&self, tx: TxId) -> &[Held]
-        ensures { result.now ≡ locks_of self.now tx }
+        ensures value { result.now ≡ locks_of self.now tx }
+        ensures numbered { IsNumbered self.now }
     {
         match self.find(tx) {
             None => &[],
@@ -183,7 +191,8 @@ impl TxTable {
 
     /// The access for which the transaction waits.
     pub fn pending(&self, tx: TxId) -> Option<&Pending>
-        ensures { option_copied result ≡ pending_of self.now tx }
+        ensures value { option_copied result ≡ pending_of self.now tx }
+        ensures numbered { IsNumbered self.now }
     {
         match self.find(tx) {
             None => None,
@@ -244,7 +253,8 @@ impl TxTable {
 
     /// The names of the open transactions, by serial.
     pub fn ids(&self) -> Result<Vec<TxId>, NoMemory>
-        ensures { IfOk result (λ ts. ts.items ≡ map (λ x. name_of self.now x.serial) self.now.txs) }
+        ensures names { IfOk result (λ ts. ts.items ≡ map (λ x. name_of self.now x.serial) self.now.txs) }
+        ensures numbered { IsNumbered self.now }
     {
         self.txs.names(self.alloc, self.node, self.born)
     }

@@ -10,7 +10,7 @@ use Rattle.tx_table.proofs.table.TxTable.add.Goals as goal
 
 pub at-open-requires : goal.at-open-requires
 at-open-requires c =
-    let there = open_there c.self.inside.last c.self.inside.txs c.args.self.now c.args.tx c.self.invariant.linked (ap (λ (s : OpenTxs). s.txs) c.self.view_is) c.requires in
+    let there = open_there 0 c.self.inside.last c.self.inside.txs c.args.self.now c.args.tx c.self.invariant.linked (ap (λ (s : OpenTxs). s.txs) c.self.view_is) c.requires in
     ap (λ o. is_some o) (sym there) ∙ c.requires
 
 pub invariant_of-self : goal.invariant_of-self
@@ -35,13 +35,13 @@ returns-in_err-add-clause-err c =
 
 pub returns-in_err-add-clause-held : goal.returns-in_err-add-clause-held
 returns-in_err-add-clause-held c =
-    let there = open_there c.self.inside.last c.self.inside.txs c.args.self.now c.args.tx c.self.invariant.linked (ap (λ (s : OpenTxs). s.txs) c.self.view_is) c.requires in
+    let there = open_there 0 c.self.inside.last c.self.inside.txs c.args.self.now c.args.tx c.self.invariant.linked (ap (λ (s : OpenTxs). s.txs) c.self.view_is) c.requires in
     let here : open_at c.args.self.now c.args.tx ≡ Some c.at-open.result.now = there ∙ sym c.at-open.ensures.value in
     λ held. absurd (false≢true (c.in_err-add.ensures.held (ap (λ o. is_some (lock_on (pages_of_open o) c.args.lock.page)) (sym here) ∙ held)))
 
 pub returns-in_err-add-clause-waits : goal.returns-in_err-add-clause-waits
 returns-in_err-add-clause-waits c =
-    let there = open_there c.self.inside.last c.self.inside.txs c.args.self.now c.args.tx c.self.invariant.linked (ap (λ (s : OpenTxs). s.txs) c.self.view_is) c.requires in
+    let there = open_there 0 c.self.inside.last c.self.inside.txs c.args.self.now c.args.tx c.self.invariant.linked (ap (λ (s : OpenTxs). s.txs) c.self.view_is) c.requires in
     let here : open_at c.args.self.now c.args.tx ≡ Some c.at-open.result.now = there ∙ sym c.at-open.ensures.value in
     λ waits. absurd (false≢true (c.in_err-add.ensures.waits (ap (λ o. waits_on (waiting_of_open o) c.args.lock.page) (sym here) ∙ waits)))
 
@@ -92,5 +92,5 @@ returns-clause-ok c =
     let s = c.args.tx.serial in
     let v = c.at-open.result.now in
     ap (λ (l : List OpenTx). record { node = c.self.inside.node; born = c.self.inside.born; last = c.self.inside.last; txs = l })
-    (values_changed (with_lock c.args.lock) c.self.inside.last s v c.add.new.self c.self.inside.txs c.self.invariant.linked (sym c.at-open.ensures.value) c.in_ok-add.ensures.ok)
+    (values_changed (with_lock c.args.lock) 0 c.self.inside.last s v c.add.new.self c.self.inside.txs c.self.invariant.linked (sym c.at-open.ensures.value) c.in_ok-add.ensures.ok)
     ∙ ap (λ (x : OpenTxs). add x c.args.tx c.args.lock) c.self.view_is

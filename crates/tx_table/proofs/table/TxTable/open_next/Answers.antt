@@ -6,7 +6,7 @@ use Rattle.tx_table.proofs.Changes.{counted_pushed}
 use Rattle.tx_table.proofs.table.TxTable.open_next.Goals as goal
 
 pub push-requires : goal.push-requires
-push-requires c = absent_above c.self.inside.last (c.self.inside.last + 1) c.self.inside.txs c.self.invariant.linked (omega arith)
+push-requires c = absent_above 0 c.self.inside.last (c.self.inside.last + 1) c.self.inside.txs c.self.invariant.linked (omega arith)
 
 pub invariant_of-self-2 : goal.invariant_of-self-2
 invariant_of-self-2 c =

@@ -7,7 +7,7 @@ use Rattle.tx_table.proofs.table.TxTable.set_kind.Goals as goal
 
 pub at-requires : goal.at-requires
 at-requires c =
-    let there = open_there c.self.inside.last c.self.inside.txs c.args.self.now c.args.tx c.self.invariant.linked (ap (λ (s : OpenTxs). s.txs) c.self.view_is) c.requires.«open» in
+    let there = open_there 0 c.self.inside.last c.self.inside.txs c.args.self.now c.args.tx c.self.invariant.linked (ap (λ (s : OpenTxs). s.txs) c.self.view_is) c.requires.«open» in
     ap (λ o. is_some o) (sym there) ∙ c.requires.«open»
 
 pub invariant_of-self : goal.invariant_of-self
@@ -26,5 +26,5 @@ returns c =
     let s = c.args.tx.serial in
     let v = c.at.result.now in
     ap (λ (l : List OpenTx). record { node = c.self.inside.node; born = c.self.inside.born; last = c.self.inside.last; txs = l })
-    (values_changed (λ (x : OpenTx). record x { pages = kind_on x.pages c.args.page c.args.kind }) c.self.inside.last s v c.set_kind.new.self c.self.inside.txs c.self.invariant.linked (sym c.at.ensures.value) c.set_kind.ensures.kind)
+    (values_changed (λ (x : OpenTx). record x { pages = kind_on x.pages c.args.page c.args.kind }) 0 c.self.inside.last s v c.set_kind.new.self c.self.inside.txs c.self.invariant.linked (sym c.at.ensures.value) c.set_kind.ensures.kind)
     ∙ ap (λ (x : OpenTxs). set_kind x c.args.tx c.args.page c.args.kind) c.self.view_is

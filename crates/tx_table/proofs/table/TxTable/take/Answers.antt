@@ -14,7 +14,7 @@ invariant_of-self c =
 pub returns-in-None-clause-value : goal.returns-in-None-clause-value
 returns-in-None-clause-value c =
     c.in-None.ensures.value
-    ∙ (sym (with_serial_lookup c.self.inside.last c.args.serial c.self.inside.txs c.self.invariant.linked)
+    ∙ (sym (with_serial_lookup 0 c.self.inside.last c.args.serial c.self.inside.txs c.self.invariant.linked)
     ∙ ap (λ (s : OpenTxs). with_serial s.txs c.args.serial) c.self.view_is)
 
 pub returns-in-None-clause-none : goal.returns-in-None-clause-none
@@ -50,11 +50,11 @@ invariant_of-self-in-Some c =
 pub returns-in-Some-clause-value : goal.returns-in-Some-clause-value
 returns-in-Some-clause-value c =
     c.in-Some.ensures.value
-    ∙ (sym (with_serial_lookup c.self.inside.last c.args.serial c.self.inside.txs c.self.invariant.linked)
+    ∙ (sym (with_serial_lookup 0 c.self.inside.last c.args.serial c.self.inside.txs c.self.invariant.linked)
     ∙ ap (λ (s : OpenTxs). with_serial s.txs c.args.serial) c.self.view_is)
 
 pub returns-in-Some-clause-closed : goal.returns-in-Some-clause-closed
 returns-in-Some-clause-closed c =
     ap (λ (l : List OpenTx). record { node = c.self.inside.node; born = c.self.inside.born; last = c.self.inside.last; txs = l })
-    (ap values_of c.in-Some.ensures.rest ∙ values_removed c.self.inside.last c.args.serial c.self.inside.txs c.self.invariant.linked)
+    (ap values_of c.in-Some.ensures.rest ∙ values_removed 0 c.self.inside.last c.args.serial c.self.inside.txs c.self.invariant.linked)
     ∙ ap (λ (s : OpenTxs). record s { txs = filter (λ x. not (x.serial == c.args.serial)) s.txs }) c.self.view_is

@@ -9,12 +9,12 @@ use Rattle.tx_table.proofs.table.TxTable.wait.Goals as goal
 
 pub at-requires : goal.at-requires
 at-requires c =
-    let there = open_there c.self.inside.last c.self.inside.txs c.args.self.now c.args.tx c.self.invariant.linked (ap (λ (s : OpenTxs). s.txs) c.self.view_is) c.requires.«open» in
+    let there = open_there 0 c.self.inside.last c.self.inside.txs c.args.self.now c.args.tx c.self.invariant.linked (ap (λ (s : OpenTxs). s.txs) c.self.view_is) c.requires.«open» in
     ap (λ o. is_some o) (sym there) ∙ c.requires.«open»
 
 pub wait-requires : goal.wait-requires
 wait-requires c =
-    let there = open_there c.self.inside.last c.self.inside.txs c.args.self.now c.args.tx c.self.invariant.linked (ap (λ (s : OpenTxs). s.txs) c.self.view_is) c.requires.«open» in
+    let there = open_there 0 c.self.inside.last c.self.inside.txs c.args.self.now c.args.tx c.self.invariant.linked (ap (λ (s : OpenTxs). s.txs) c.self.view_is) c.requires.«open» in
     let here : open_at c.args.self.now c.args.tx ≡ Some c.at.result.now = there ∙ sym c.at.ensures.value in
     ap (λ o. waiting_of_open o) (sym here) ∙ c.requires.none
 
@@ -42,7 +42,7 @@ pub invariant_of-self-2 : goal.invariant_of-self-2
 invariant_of-self-2 c =
     let v = c.at.result.now in
     let w = c.wait.new.self in
-    let there = open_there c.self.inside.last c.self.inside.txs c.args.self.now c.args.tx c.self.invariant.linked (ap (λ (s : OpenTxs). s.txs) c.self.view_is) c.requires.«open» in
+    let there = open_there 0 c.self.inside.last c.self.inside.txs c.args.self.now c.args.tx c.self.invariant.linked (ap (λ (s : OpenTxs). s.txs) c.self.view_is) c.requires.«open» in
     let here : open_at c.args.self.now c.args.tx ≡ Some v = there ∙ sym c.at.ensures.value in
     let none : waits_in v ≡ 0 = ap one_if (ap (λ o. waiting_of_open o) (sym here) ∙ c.requires.none) in
     let locks : locks_in w ≡ locks_in v = ap locks_in c.in_ok-wait.ensures.ok in
@@ -62,5 +62,5 @@ returns-clause-ok c =
     let s = c.args.tx.serial in
     let v = c.at.result.now in
     ap (λ (l : List OpenTx). record { node = c.self.inside.node; born = c.self.inside.born; last = c.self.inside.last; txs = l })
-    (values_changed (λ (x : OpenTx). record x { waiting = Some c.args.access }) c.self.inside.last s v c.wait.new.self c.self.inside.txs c.self.invariant.linked (sym c.at.ensures.value) c.in_ok-wait.ensures.ok)
+    (values_changed (λ (x : OpenTx). record x { waiting = Some c.args.access }) 0 c.self.inside.last s v c.wait.new.self c.self.inside.txs c.self.invariant.linked (sym c.at.ensures.value) c.in_ok-wait.ensures.ok)
     ∙ ap (λ (x : OpenTxs). wait x c.args.tx c.args.access) c.self.view_is
