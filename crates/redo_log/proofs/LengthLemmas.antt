@@ -1,7 +1,7 @@
 -- Fields that were read are as long as what they are the bytes of.
-use Rattle.std.proofs.Common.{◌≡◌, refl, sym, ap, ◌∙◌, ℕ, zero, suc, ◌+◌, ◌-◌, ◌<◌, ◌≤◌, ◌==◌, Bool, true, false, nat_le, List, [], ◌∷◌, ◌++◌, length, map, take, drop, Result, Ok, Err, arith, length-append}
+use Rattle.std.proofs.Common.{◌≡◌, refl, sym, ap, ◌∙◌, ℕ, zero, suc, ◌+◌, ◌-◌, ◌≤◌, ◌==◌, Bool, true, false, nat_le, List, [], ◌∷◌, length, map, take, drop, Result, Ok, Err, arith, length-append}
 use Rattle.std.specs.List.{concat}
-use Rattle.std.specs.Int.{Width, w8, w16, w32, w64, to_be_bytes, byte_len}
+use Rattle.std.specs.Int.{Width, w8, w16, w32, w64, byte_len}
 use Rattle.std.proofs.lemmas.Bool.Decides.{nat_tests}
 use Rattle.std.proofs.lemmas.List.{length-take, length-drop}
 use Rattle.pcl_base.specs.Limits.{Sizes}
@@ -10,8 +10,8 @@ use Rattle.pcl_base.specs.declared.log.Logged.{Logged}
 use Rattle.pcl_base.specs.declared.log.Part.{Part}
 use Rattle.pcl_base.specs.declared.log.Part.TheVariants.{Image, Ranges}
 use Rattle.pcl_base.specs.declared.log.ChangedRange.{ChangedRange}
-use Rattle.text_rules.specs.FieldBytes.{Fault, Short, TooLong, BadField, Stop, Reader, stop, pick, after, give, judged, allowed, number, number_from, at_least, piece, whole, before_rest, within}
-use Rattle.text_rules.specs.LogRecord.{is_whole, is_mark, range_bytes, part_bytes, logged_bytes, body_bytes, record_bytes, ranges_field, part_field, changes_field, body_field, record_field}
+use Rattle.text_rules.specs.FieldBytes.{Fault, Short, TooLong, Stop, Reader, stop, pick, after, give, judged, number, number_from, at_least, piece, whole, before_rest}
+use Rattle.text_rules.specs.LogRecord.{is_whole, range_bytes, part_bytes, logged_bytes, body_bytes, record_bytes, ranges_field, part_field, changes_field, body_field, record_field}
 
 -- a field that was read before what followed
 pub record Went {X Y : Type 0} (r : Result (X × List ℕ) Stop) (f : X → Reader Y) (y : Y) (b : List ℕ) : Type 0 where

@@ -5,6 +5,7 @@ pub mod PassingLemmas
 pub mod LengthLemmas
 pub mod LogLemmas
 pub mod StepLemmas
+pub mod AnswerLemmas
 pub mod PuttingLemmas
 pub mod MoreLemmas
 pub mod ReadableLemmas

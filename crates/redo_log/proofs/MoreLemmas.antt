@@ -1,15 +1,15 @@
 -- Fields are read alike where more bytes follow, and leave the bytes behind them.
-use Rattle.std.proofs.Common.{◌≡◌, refl, sym, ap, subst, ◌∙◌, ℕ, zero, suc, ◌+◌, ◌-◌, ◌<◌, ◌≤◌, Bool, true, false, nat_le, List, [], ◌∷◌, ◌++◌, length, map, take, drop, Result, Ok, Err, arith, length-append}
+use Rattle.std.proofs.Common.{◌≡◌, refl, sym, ap, ◌∙◌, ℕ, zero, suc, ◌+◌, ◌-◌, ◌≤◌, Bool, true, false, nat_le, List, [], ◌∷◌, ◌++◌, length, map, take, drop, Result, Ok, arith, length-append}
 use Rattle.std.specs.List.{concat}
-use Rattle.std.specs.Int.{Width, w8, w16, w32, w64, byte_len}
+use Rattle.std.specs.Int.{Width, w16, byte_len}
 use Rattle.std.proofs.lemmas.Bool.Decides.{nat_tests}
 use Rattle.std.proofs.lemmas.List.{drop-drop, drop-append-le, take-append-le}
 use Rattle.pcl_base.specs.declared.log.Part.{Part}
 use Rattle.pcl_base.specs.declared.log.Part.TheVariants.{Image, Ranges}
 use Rattle.pcl_base.specs.declared.log.ChangedRange.{ChangedRange}
-use Rattle.text_rules.specs.FieldBytes.{Fault, Short, Stop, stop, pick, after, give, judged, number, number_from, at_least, piece}
+use Rattle.text_rules.specs.FieldBytes.{Fault, Short, Stop, stop, pick, judged, number, number_from, at_least, piece}
 use Rattle.text_rules.specs.LogRecord.{range_bytes, part_bytes, ranges_field, part_field}
-use Rattle.redo_log.proofs.LengthLemmas.{went, given_value, given_left, piece_long, number_long, from_long, from_left, least_left, judged_read}
+use Rattle.redo_log.proofs.LengthLemmas.{went, given_value, given_left, piece_long, from_left, least_left, judged_read}
 
 -- a piece
 pub piece_more : (n : ℕ) (a x b m : List ℕ) → piece n a ≡ Ok (x, b) → piece n (a ++ m) ≡ Ok (x, b ++ m)

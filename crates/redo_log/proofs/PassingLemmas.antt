@@ -1,16 +1,12 @@
 -- Passing over fields whose bytes aren't kept.
-use Rattle.std.proofs.Common.{◌≡◌, refl, sym, ap, ◌∙◌, ℕ, zero, suc, ◌+◌, ◌-◌, ◌<◌, ◌≤◌, ◌==◌, Bool, true, false, List, [], ◌∷◌, length, Option, Some, None, IfSome, Result, Ok, Err, arith}
+use Rattle.std.proofs.Common.{◌≡◌, refl, ap, ◌∙◌, ℕ, suc, ◌+◌, ◌-◌, ◌<◌, Bool, List, ◌∷◌, Option, Some, None, IfSome, Result, Ok, Err, arith}
 use Rattle.std.specs.Int.{w16, w32, w64}
-use Rattle.std.proofs.lemmas.Bool.Decides.{nat_tests}
 use Rattle.pcl_base.specs.Limits.{Sizes}
-use Rattle.pcl_base.specs.declared.log.Record.{Record}
-use Rattle.pcl_base.specs.declared.log.Logged.{Logged}
 use Rattle.pcl_base.specs.declared.log.Part.{Part}
 use Rattle.pcl_base.specs.declared.log.ChangedRange.{ChangedRange}
-use Rattle.pcl_base.specs.declared.tx.TxId.{TxId}
-use Rattle.text_rules.specs.FieldBytes.{Stop, TooLong, stop, pick, after, give, number_from, at_least, piece, whole, before_rest}
+use Rattle.text_rules.specs.FieldBytes.{Stop, after, give, number_from, at_least, piece, whole}
 use Rattle.text_rules.specs.LogRecord.{ranges_field, part_field, changes_field}
-use Rattle.redo_log.specs.Walks.{rest_of, changes_in}
+use Rattle.redo_log.specs.Walks.{rest_of}
 use Rattle.redo_log.specs.Heads.{head_field, IsEntry}
 use Rattle.redo_log.specs.declared.entries.Head.{Head}
 

@@ -6,7 +6,7 @@ use Rattle.pcl_base.specs.Limits.{Sizes}
 use Rattle.pcl_base.specs.declared.log.Record.{Record}
 use Rattle.pcl_base.specs.declared.log.Logged.{Logged}
 use Rattle.text_rules.specs.LogRecord.{logged_bytes, record_bytes, records_of}
-use Rattle.redo_log.specs.Placed.{Placed, whole_at, placed_in, placed_from, placed_of}
+use Rattle.redo_log.specs.Placed.{Placed, placed_in, placed_from, placed_of}
 
 -- the entries of changed pages
 entries_in : (start end place : ℕ) (xs : List Logged) → map (λ x. x.entry) (placed_in start end place xs) ≡ xs

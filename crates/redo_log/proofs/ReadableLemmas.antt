@@ -1,19 +1,18 @@
 -- Each changed page of the whole records of a log is read at its place.
-use Rattle.std.proofs.Common.{◌≡◌, refl, sym, ap, subst, ◌∙◌, ℕ, zero, suc, ◌+◌, ◌-◌, ◌<◌, ◌≤◌, ◌==◌, Bool, true, false, List, [], ◌∷◌, ◌++◌, length, map, take, drop, slice_range, slice_index_or, Option, Some, None, Result, Ok, Err, arith, length-append}
-use Rattle.std.specs.List.{concat, Contains, AllByRecursion}
-use Rattle.std.specs.Int.{w8, w16, w32, w64}
+use Rattle.std.proofs.Common.{◌≡◌, refl, sym, ap, subst, ◌∙◌, ℕ, zero, suc, ◌+◌, ◌-◌, ◌<◌, ◌≤◌, ◌==◌, Bool, true, false, List, [], ◌∷◌, ◌++◌, length, take, drop, slice_range, slice_index_or, Option, Some, None, Result, Ok, Err, arith}
+use Rattle.std.specs.List.{AllByRecursion}
+use Rattle.std.specs.Int.{w8, w32, w64}
 use Rattle.std.proofs.lemmas.Bool.Decides.{nat_tests}
-use Rattle.std.proofs.lemmas.List.{drop-drop, drop-take, length-drop, take-append-drop}
+use Rattle.std.proofs.lemmas.List.{drop-drop, length-drop}
 use Rattle.std.proofs.Math.Seq.{take-add}
 use Rattle.pcl_base.specs.Limits.{Sizes}
 use Rattle.pcl_base.specs.declared.log.Record.{Record}
 use Rattle.pcl_base.specs.declared.log.Logged.{Logged}
-use Rattle.pcl_base.specs.declared.log.Part.{Part}
 use Rattle.text_rules.specs.FieldBytes.{Stop, TooLong, stop, pick, number, number_from, at_least, piece, whole, before_rest, allowed, BadField}
-use Rattle.text_rules.specs.LogRecord.{Log, before, is_whole, is_mark, part_bytes, logged_bytes, body_bytes, record_bytes, part_field, changes_field, body_field, record_field, log_at, log_up_to, records_of}
+use Rattle.text_rules.specs.LogRecord.{is_whole, is_mark, part_bytes, logged_bytes, record_bytes, part_field, changes_field, body_field, record_field, log_at, log_up_to}
 use Rattle.redo_log.specs.Placed.{Placed, IsPlaced, whole_at, placed_in, placed_from, placed_of}
 use Rattle.redo_log.proofs.PieceLemmas.{slice_behind, slice_long}
-use Rattle.redo_log.proofs.LengthLemmas.{went, given_value, given_left, piece_long, number_left, from_left, least_left, from_long, least_long, judged_read, part_long, changes_long, record_long}
+use Rattle.redo_log.proofs.LengthLemmas.{went, given_value, given_left, piece_long, number_left, from_left, least_left, from_long, least_long, judged_read, part_long, record_long}
 use Rattle.redo_log.specs.Walks.{Reading, left_of}
 use Rattle.redo_log.specs.Applied.{applied, part_put}
 use Rattle.redo_log.proofs.PuttingLemmas.{part_given}

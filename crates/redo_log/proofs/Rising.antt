@@ -1,5 +1,5 @@
 -- A walk ends: the places of its answers rise, and fit eight bytes.
-use Rattle.std.proofs.Common.{◌≡◌, refl, ap, ◌∙◌, ℕ, zero, suc, ◌+◌, ◌-◌, ◌*◌, ◌<◌, ◌≤◌, List, [], ◌∷◌, ◌++◌, length, map, Option, Some, None, arith, length-append}
+use Rattle.std.proofs.Common.{◌≡◌, refl, ap, ℕ, ◌+◌, ◌*◌, ◌≤◌, List, [], ◌∷◌, ◌++◌, length, map, Some, None, arith, length-append}
 use Rattle.std.specs.Prelude.{⊤}
 use Rattle.std.specs.List.{concat}
 use Rattle.std.specs.Int.{w32, w64, to_be_bytes}
@@ -7,7 +7,7 @@ use Rattle.pcl_base.specs.Limits.{Sizes}
 use Rattle.pcl_base.specs.declared.log.Record.{Record}
 use Rattle.pcl_base.specs.declared.log.Logged.{Logged}
 use Rattle.pcl_base.specs.declared.log.Seen.{Seen}
-use Rattle.text_rules.specs.LogRecord.{part_bytes, logged_bytes, mark_of, body_bytes, record_bytes, records_of}
+use Rattle.text_rules.specs.LogRecord.{part_bytes, logged_bytes, body_bytes, record_bytes, records_of}
 use Rattle.redo_log.specs.Placed.{Placed, seen_of, placed_in, placed_from, placed_of}
 use Rattle.redo_log.specs.Walks.{first_seen, after_first}
 

@@ -8,6 +8,7 @@ mod entries;
 mod fields;
 mod force;
 mod numbers;
+mod parts;
 mod reader;
 mod reading;
 #[cfg(test)]

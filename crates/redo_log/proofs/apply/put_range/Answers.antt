@@ -1,4 +1,4 @@
-use Rattle.std.proofs.Common.{◌≡◌, ◌≤◌, ◌+◌, ◌-◌, ℕ, length, Some, ap, arith, sym, ◌∙◌}
+use Rattle.std.proofs.Common.{◌≡◌, Some, arith}
 use Rattle.disk_model.specs.Disk.{told_at}
 use Rattle.redo_log.proofs.PuttingLemmas.{head_kept, range_put_at}
 use Rattle.redo_log.proofs.apply.put_range.Goals as goal

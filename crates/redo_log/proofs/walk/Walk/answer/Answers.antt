@@ -1,7 +1,7 @@
-use Rattle.std.proofs.Common.{◌≡◌, ◌-◌, ◌==◌, Some, refl, ap, ◌∙◌, arith}
+use Rattle.std.proofs.Common.{◌≡◌, ◌-◌, ◌==◌, Some, refl, ap, ◌∙◌}
 use Rattle.disk_model.specs.Disk.{told_at}
 use Rattle.text_rules.specs.FieldBytes.{pick}
-use Rattle.redo_log.proofs.StepLemmas.{answered_at, never_stops}
+use Rattle.redo_log.proofs.AnswerLemmas.{answered_at, never_stops}
 use Rattle.redo_log.proofs.walk.Walk.answer.Goals as goal
 
 pub returns-in-Ok-clause-value : goal.returns-in-Ok-clause-value

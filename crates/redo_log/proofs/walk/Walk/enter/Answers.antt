@@ -1,4 +1,4 @@
-use Rattle.std.proofs.Common.{◌≡◌, [], Some, refl, sym, ap, ◌∙◌, arith}
+use Rattle.std.proofs.Common.{◌≡◌, [], Some, refl, sym, ap, ◌∙◌}
 use Rattle.disk_model.specs.Disk.{told_at}
 use Rattle.redo_log.specs.Walks.{Reading}
 use Rattle.redo_log.proofs.StepLemmas.{entered_at, ended_at}

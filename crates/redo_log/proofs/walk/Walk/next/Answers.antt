@@ -1,4 +1,4 @@
-use Rattle.std.proofs.Common.{◌≡◌, ℕ, List, Some, true, refl, sym, ap, ◌∙◌}
+use Rattle.std.proofs.Common.{◌≡◌, ℕ, List, Some, true, refl, ap, ◌∙◌}
 use Rattle.disk_model.specs.Disk.{told_at}
 use Rattle.redo_log.specs.Told.{IsLog}
 use Rattle.redo_log.specs.Walks.{Standing, Stands, node_of, to_come, first_seen, after_first, whole_after}

@@ -3,7 +3,7 @@ use Rattle.pcl_base.specs.declared.trace.Call.{Call as Kind}
 use Rattle.text_rules.specs.LogRecord.{ranges_field}
 use Rattle.redo_log.specs.Told.{IsLog, NoneFails}
 use Rattle.redo_log.specs.Walks.{Reads, left_of, rest_of}
-use Rattle.redo_log.proofs.entries.pass_ranges.Given as goal
+use Rattle.redo_log.proofs.parts.pass_ranges.Given as goal
 
 -- what is left behind the items that were passed is what is left behind all of them
 abbrev pub invariant-loop : goal.invariant-loop

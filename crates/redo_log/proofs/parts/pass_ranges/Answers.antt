@@ -4,7 +4,7 @@ use Rattle.text_rules.specs.LogRecord.{ranges_field}
 use Rattle.redo_log.specs.Told.{IsLog}
 use Rattle.redo_log.specs.Walks.{left_of, rest_of}
 use Rattle.redo_log.proofs.PassingLemmas.{step_passed, step_broken}
-use Rattle.redo_log.proofs.entries.pass_ranges.Goals as goal
+use Rattle.redo_log.proofs.parts.pass_ranges.Goals as goal
 
 pub returns-in_err-low-clause-err : goal.returns-in_err-low-clause-err
 returns-in_err-low-clause-err g c =
