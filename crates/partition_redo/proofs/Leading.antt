@@ -57,7 +57,7 @@ unfolding placed_of
 placed_entries c log p = entries_from p 0 (records_of c log)
 
 -- each of them stands where it was seen
-by_recursion : {X : Type 0} (P : X → Type 0) (xs : List X) → All P xs → AllByRecursion P xs
+pub by_recursion : {X : Type 0} (P : X → Type 0) (xs : List X) → All P xs → AllByRecursion P xs
 by_recursion P [] h = tt
 by_recursion P (x ∷ xs) h = (h 0 x (omega arith), by_recursion P xs (λ k y less. h (suc k) y (omega arith)))
 
@@ -66,7 +66,7 @@ stand_among c d n [] node h = tt
 stand_among c d n (y ∷ ys) node h =
     (record { node = node; placed = y; there = record { among = h.0; there = refl; format = refl }; same = refl }, stand_among c d n ys node h.1)
 
-all_stand : (c : Sizes) (d : Disk) (n : ℕ) → n < c.nodes → AllByRecursion (λ y. Stands c d (site_of n (seen_of y)) y.entry) (placed_of c (log_at d n))
+pub all_stand : (c : Sizes) (d : Disk) (n : ℕ) → n < c.nodes → AllByRecursion (λ y. Stands c d (site_of n (seen_of y)) y.entry) (placed_of c (log_at d n))
 all_stand c d n node = stand_among c d n (placed_of c (log_at d n)) node (by_recursion (Contains (placed_of c (log_at d n))) (placed_of c (log_at d n)) (All-contains_itself (placed_of c (log_at d n))))
 
 -- all logs

@@ -3,4 +3,8 @@ pub mod SeenVersions
 pub mod Noted
 pub mod Indexed
 pub mod Leading
+pub mod Standing
 pub mod Plans
+pub mod Staying
+pub mod Redoing
+pub mod Applying

@@ -82,7 +82,7 @@ record_versions c d p w (n ∷ ns) h =
     (all_joined _ (entries_of p (records_of c (log_at d n))) (entries_of p (records_in c d ns))
     (subst (AllByRecursion (λ x. x.version < w)) (placed_entries c (log_at d n) p) (entry_versions p w (placed_of c (log_at d n)) h.0)) (record_versions c d p w ns h.1))
 
-count_all : (P : ℕ → Type 0) (a k : ℕ) → ((n : ℕ) → n < a + k → P n) → AllByRecursion P (count_from a k)
+pub count_all : (P : ℕ → Type 0) (a k : ℕ) → ((n : ℕ) → n < a + k → P n) → AllByRecursion P (count_from a k)
 unfolding count_from
 count_all P a zero h = tt
 count_all P a (suc k) h = (h a (omega arith), count_all P (a + 1) k (λ n less. h n (omega arith)))
@@ -116,7 +116,7 @@ known_some c d i j p h full =
 pub given_is_chain : (c : Sizes) (d : Disk) (i j : IndexView) (p : ℕ) (x : Chain) → IsFull c d i j → IsListed d i p → IsGiven j p x → (x.page ≡ p) × IsChain c d x
 given_is_chain c d i j p x full h given =
     let some = known_some c d i j p h full in
-    let follows = given some.newest (some.knows.base 0) in
+    let follows = given.follows some.newest (some.knows.base 0) in
     let all = record_versions c d p (2 ^ 64) (count_from 0 c.nodes) (count_all _ 0 c.nodes (λ n less. full.versions n (omega arith))) in
     let led = chain_leads c d (entries c d p) some.newest (λ v. known j p v) follows.more h.at x.version some.knows follows.next (ends follows.last all) in
     let leads = subst (λ (ss : List Site). Leads c d ss h.at.bytes (redone_by (entries c d p) h.at).bytes) (sym follows.sites_same) led.leads in (
@@ -129,6 +129,8 @@ given_is_chain c d i j p x full h given =
         version = led.version;
         leads = λ newer. leads;
         fresh = λ none. fresh some.newest.image some.newest.version some.knows.version some.knows.image follows.more (sym follows.sites_same ∙ none) follows.next;
+        small = given.small;
+        fits = given.fits;
       },
     )
   where
@@ -159,3 +161,24 @@ chains_redone c d (p ∷ ps) (x ∷ xs) all =
     let chain = all.0.1 in
     let own : redo c d p ≡ Some chain.new = subst (λ (q : ℕ). redo c d q ≡ Some chain.new) all.0.0 chain.redone in
     ((all.0.0, (chain.new, own, chain.version)), chains_redone c d ps xs all.1)
+
+-- they name the pages of the chains
+pub versions_named : (xs : List Chain) → map (λ (v : ℕ × ℕ). v.0) (map (λ x. (x.page, x.version)) xs) ≡ map (λ x. x.page) xs
+versions_named [] = refl
+versions_named (x ∷ xs) = ap (λ (ps : List ℕ). x.page ∷ ps) (versions_named xs)
+
+-- chains of listed pages, and the pages
+pub are_all_chains : (c : Sizes) (d : Disk) (ps : List ℕ) (xs : List Chain) → AreChains c d ps xs → AllByRecursion (IsChain c d) xs
+are_all_chains c d [] [] all = tt
+are_all_chains c d [] (x ∷ xs) all = absurd all
+are_all_chains c d (p ∷ ps) [] all = absurd all
+are_all_chains c d (p ∷ ps) (x ∷ xs) all = (all.0.1, are_all_chains c d ps xs all.1)
+
+pub are_chains : (c : Sizes) (d : Disk) (ps : List ℕ) (xs : List Chain) → map (λ x. x.page) xs ≡ ps → AllByRecursion (IsChain c d) xs → AreChains c d ps xs
+are_chains c d [] [] same all = tt
+are_chains c d [] (x ∷ xs) same all = absurd (cc)
+are_chains c d (p ∷ ps) [] same all = absurd (cc)
+are_chains c d (p ∷ ps) (x ∷ xs) same all =
+    let one : x.page ≡ p = cc in
+    let rest : map (λ x. x.page) xs ≡ ps = cc in
+    ((one, all.0), are_chains c d ps xs rest all.1)

@@ -1,7 +1,10 @@
 -- Chains of entries in logs that lead from a stored page to its redo.
 use Rattle.std.specs.Prelude.{◌≡◌, ⊤, ℕ, ◌+◌, ◌-◌, ◌^◌, ◌<◌, ◌≤◌, ◌⊎◌, ◌≢◌, List, [], ◌∷◌, ◌++◌, Option, Some, None, Result, Ok, Err}
+use Rattle.std.specs.List.{AllByRecursion}
 use Rattle.pcl_base.specs.Limits.{Sizes}
 use Rattle.pcl_base.specs.declared.log.Logged.{Logged}
+use Rattle.pcl_base.specs.declared.trace.Call.{Call}
+use Rattle.pcl_base.specs.declared.trace.Call.TheVariants as call
 use Rattle.text_rules.specs.StoredPage.{PageAt, BadNumber, stored_page}
 use Rattle.run_rules.specs.Disk.{Disk, raw_page, log_at}
 use Rattle.run_rules.specs.Redo.{redo}
@@ -10,8 +13,8 @@ use Rattle.redo_log.specs.Applied.{with_part}
 use Rattle.partition_redo.specs.declared.site.Site.{Site}
 use Rattle.partition_redo.specs.declared.site.Base.{Base}
 use Rattle.partition_redo.specs.declared.site.Chain.{Chain}
-use Rattle.partition_redo.specs.declared.fault.RedoFault.{RedoFault}
-use Rattle.partition_redo.specs.declared.fault.RedoFault.TheVariants.{BadPage, Failed, NoMemory}
+use Rattle.page_store.specs.declared.fault.RedoFault.{RedoFault}
+use Rattle.page_store.specs.declared.fault.RedoFault.TheVariants.{BadPage, Failed, NoMemory}
 use Rattle.partition_redo.specs.Index.{IndexView, base_of, ranges_of}
 
 -- an entry in the whole records of a log, and where it stands
@@ -20,6 +23,14 @@ pub record Stands (c : Sizes) (d : Disk) (s : Site) (x : Logged) : Type 0 where
   pub placed : Placed
   pub there : IsPlaced c (log_at d s.node) s.place s.whole placed
   pub same : placed.entry ≡ x
+
+-- so some entry does at a site
+abbrev pub IsSite : Sizes → Disk → Site → Type 0
+IsSite c d s = (x : Logged) × Stands c d s x
+
+-- and at each site of some chains
+abbrev pub AllStand : Sizes → Disk → List Chain → Type 0
+AllStand c d xs = AllByRecursion (λ x. AllByRecursion (IsSite c d) x.sites) xs
 
 -- entries one after the other lead from the bytes of a page to others
 abbrev pub Leads : Sizes → Disk → List Site → List ℕ → List ℕ → Type 0
@@ -40,6 +51,8 @@ pub record IsChain (c : Sizes) (d : Disk) (x : Chain) : Type 0 where
   pub version : new.version ≡ x.version
   pub leads : old.version < x.version → Leads c d x.sites old.bytes new.bytes
   pub fresh : x.sites ≡ [] → x.version ≤ old.version
+  pub small : x.page < 2 ^ 32
+  pub fits : x.version < 2 ^ 64
 
 -- items of two lists belong together, each to the one at its place
 abbrev pub AreAll : {X Y : Type 0} → (X → Y → Type 0) → List X → List Y → Type 0
@@ -87,16 +100,26 @@ pub record Follows (i : IndexView) (page from : ℕ) (sites : List Site) (x : Ch
   pub last : AreLast i page x.version
 
 -- the chain of a page that an index gives
-abbrev pub IsGiven : IndexView → ℕ → Chain → Type 0
-IsGiven i p x = (b : Base) → base_of i p ≡ Some b → Follows i p b.version (image_sites b.image) x
+pub record IsGiven (i : IndexView) (p : ℕ) (x : Chain) : Type 0 where
+  pub page : x.page ≡ p
+  pub small : x.page < 2 ^ 32
+  pub fits : x.version < 2 ^ 64
+  pub none : base_of i p ≡ None → x.sites ≡ []
+  pub follows : (b : Base) → base_of i p ≡ Some b → Follows i p b.version (image_sites b.image) x
 
--- what the reading of a stored page answers
-abbrev pub AnswersStored : Disk → ℕ → Result ℕ RedoFault → Type 0
-AnswersStored d page (Ok v) = (at : PageAt) × (stored_page page (raw_page d.pages page) ≡ Ok at) × (at.version ≡ v)
-AnswersStored d page (Err (Failed call)) = ⊤
-AnswersStored d page (Err (BadPage q expected found)) =
+-- the newest whole page that is known is the stored one
+abbrev pub IsStoredOne : Option Base → Type 0
+IsStoredOne None = ⊤
+IsStoredOne (Some b) = b.image ≡ None
+
+-- what the reading of a stored page answers, and the bytes that it reads
+abbrev pub AnswersStored : Disk → ℕ → List ℕ → Result ℕ RedoFault → Type 0
+AnswersStored d page bytes (Ok v) =
+    (at : PageAt) × (stored_page page (raw_page d.pages page) ≡ Ok at) × (at.version ≡ v) × (at.bytes ≡ bytes)
+AnswersStored d page bytes (Err (Failed kind)) = kind ≡ call.Read
+AnswersStored d page bytes (Err (BadPage q expected found)) =
     (q ≡ page) × (stored_page page (raw_page d.pages page) ≡ Err (record { expected = expected; found = found }))
-AnswersStored d page (Err NoMemory) = ⊤
+AnswersStored d page bytes (Err NoMemory) = ⊥
 
 -- a page that is named bad has another number than it must
 abbrev pub NamesOther : RedoFault → Type 0
@@ -124,3 +147,23 @@ abbrev pub NamesFirst : Disk → List ℕ → RedoFault → Type 0
 NamesFirst d pages (Failed call) = ⊤
 NamesFirst d pages (BadPage page expected found) = first_bad d pages ≡ Some (record { page = page; expected = expected; found = found })
 NamesFirst d pages NoMemory = ⊤
+
+-- a call that only reads stored pages or logs
+abbrev pub IsReadCall : Call → Type 0
+IsReadCall k = (k ≡ call.Read) ⊎ (k ≡ call.Log)
+
+-- a call that a redo makes: one that only reads, or a page's write
+abbrev pub IsRedoCall : Call → Type 0
+IsRedoCall k = IsReadCall k ⊎ (k ≡ call.Write)
+
+-- a failed call that is named only reads
+abbrev pub NamesRead : RedoFault → Type 0
+NamesRead (Failed call) = IsReadCall call
+NamesRead (BadPage page expected found) = ⊤
+NamesRead NoMemory = ⊤
+
+-- a failed call that is named is one that a redo makes
+abbrev pub NamesCall : RedoFault → Type 0
+NamesCall (Failed call) = IsRedoCall call
+NamesCall (BadPage page expected found) = ⊤
+NamesCall NoMemory = ⊤

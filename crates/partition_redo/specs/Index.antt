@@ -1,4 +1,5 @@
--- What an index of listed pages knows, page by page and version by version.
+-- What an index of listed pages knows, page by page and version by version. From next_base to
+-- known_logs these serve only contracts of functions inside this crate.
 use Rattle.std.specs.Prelude.{ℕ, ◌==◌, ◌&&◌, not, nat_lt, nat_eq, Bool, List, Option, Some, None}
 use Rattle.std.specs.List.{fold}
 use Rattle.std.specs.Map.{lookup}

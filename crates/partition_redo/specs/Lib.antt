@@ -1,3 +1,5 @@
 pub mod Newest
 pub mod Index
 pub mod Chains
+pub mod Writes
+pub mod Plans

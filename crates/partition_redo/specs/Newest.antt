@@ -1,4 +1,5 @@
--- The greatest version of a page among the answers of walks.
+-- The greatest version of a page among the answers of walks. These serve only contracts of
+-- functions inside this crate.
 use Rattle.std.specs.Prelude.{ℕ, ◌==◌, ◌&&◌, nat_lt, List, Option}
 use Rattle.std.specs.Option.{option_map}
 use Rattle.std.specs.List.{fold}

@@ -1,9 +1,11 @@
-ghost use Rattle.std.specs.Prelude.{◌≡◌, ℕ, ◌<◌, ◌^◌, length, map, slice_index, nat_eq, Some, IfOk, OnOk};
+ghost use Rattle.std.specs.Prelude.{◌≡◌, ℕ, ◌<◌, ◌^◌, length, map, slice_index, nat_eq, Some, IfOk, IfErr, OnOk};
 ghost use Rattle.std.specs.Map.{lookup};
+ghost use Rattle.page_store.specs.declared.fault.RedoFault.TheVariants.{NoMemory as no_memory};
 ghost use Rattle.partition_redo.specs.Newest.{seen_version};
 
 use indexmap::IndexMap;
-use pcl_base::{NoMemory, PageNo, Seen, Version};
+use page_store::RedoFault;
+use pcl_base::{PageNo, Seen, Version};
 use std::alloc::Global;
 use std::marker::Model;
 
@@ -23,12 +25,13 @@ impl Model for Greatest {
 
 impl Greatest {
     /// Version 0 of each of these pages.
-    pub(crate) fn open(alloc: Global, pages: &[PageNo]) -> Result<Greatest, NoMemory>
-        ensures { IfOk result (λ g. (k : ℕ) → k < length pages.now → lookup (nat_eq (slice_index pages.now k)) g ≡ Some 0) }
+    pub(crate) fn open(alloc: Global, pages: &[PageNo]) -> Result<Greatest, RedoFault>
+        ensures fault { IfErr result (λ e. e ≡ no_memory) }
+        ensures zero { IfOk result (λ g. (k : ℕ) → k < length pages.now → lookup (nat_eq (slice_index pages.now k)) g ≡ Some 0) }
     {
         let mut versions = IndexMap::new(alloc);
         for page in pages {
-            versions.insert(*page, 0)?;
+            versions.insert(*page, 0).map_err(|_| RedoFault::NoMemory)?;
         }
         Ok(Greatest { versions })
     }
@@ -56,12 +59,20 @@ impl Greatest {
     }
 
     /// The greatest version of each of the listed pages, in their order.
-    pub(crate) fn versions(&self, alloc: Global, pages: &[PageNo]) -> Result<Vec<Version>, NoMemory>
-        ensures { IfOk result (λ vs. (f : ℕ → ℕ) → ((k : ℕ) → k < length pages.now → lookup (nat_eq (slice_index pages.now k)) self.now ≡ Some (f (slice_index pages.now k))) → vs.items ≡ map f pages.now) }
+    pub(crate) fn versions(
+        &self,
+        alloc: Global,
+        pages: &[PageNo],
+    ) -> Result<Vec<Version>, RedoFault>
+        ensures fault { IfErr result (λ e. e ≡ no_memory) }
+        ensures len { IfOk result (λ vs. length vs.items ≡ length pages.now) }
+        ensures all { IfOk result (λ vs. (f : ℕ → ℕ) → ((k : ℕ) → k < length pages.now → lookup (nat_eq (slice_index pages.now k)) self.now ≡ Some (f (slice_index pages.now k))) → vs.items ≡ map f pages.now) }
     {
         let mut versions = Vec::new(alloc);
         for page in pages {
-            versions.push(self.version(*page))?;
+            versions
+                .push(self.version(*page))
+                .map_err(|_| RedoFault::NoMemory)?;
         }
         Ok(versions)
     }

@@ -5,17 +5,23 @@
 //! The logs are walked once. Of the listed pages an index is kept; no log is read whole, and all
 //! memory is taken before the first write.
 
-mod fault;
+mod apply;
 mod greatest;
 mod index;
+mod laws;
 mod plan;
+mod planned;
 mod site;
 mod versions;
 mod walked;
+mod whole;
 
-pub use fault::RedoFault;
-pub use plan::{Planned, prepare};
+pub use laws::plan_stays;
+pub use page_store::RedoFault;
+pub use plan::prepare;
+pub use planned::Planned;
 pub use versions::newest;
+pub use whole::redo;
 
 #[cfg(test)]
 mod tests;

@@ -1,56 +1,36 @@
-ghost use Rattle.std.specs.Prelude.{◌≡◌, ◌≢◌, ℕ, ◌<◌, ◌≤◌, ◌+◌, ◌⊎◌, List, Option, Some, None, All, map, length, OnOk, IfOk, IfErr, slice_index};
+ghost use Rattle.std.specs.Prelude.{◌≡◌, ◌≢◌, ℕ, ◌<◌, ◌≤◌, ◌+◌, ◌⊎◌, List, Option, Some, None, All, map, drop, length, OnOk, IfOk, IfErr, slice_index};
+ghost use Rattle.std.specs.List.{AllByRecursion};
 ghost use Rattle.pcl_base.specs.Faults.{Rose};
 ghost use Rattle.pcl_base.specs.declared.trace.Call.{Call as Kind};
 ghost use Rattle.disk_model.specs.Disk.{told_at, IsIn, HasLength, HasSizes};
 ghost use Rattle.run_rules.specs.Disk.{Disk};
 ghost use Rattle.redo_log.specs.Told.{NoneFails};
-ghost use Rattle.partition_redo.specs.declared.fault.RedoFault.TheVariants.{Failed as failed, NoMemory as no_memory};
-ghost use Rattle.partition_redo.specs.Index.{ranges_of};
-ghost use Rattle.partition_redo.specs.Chains.{AreAll, AreChains, IsRedone, IsGiven, IsListed, AnswersStored, NamesOther, NamesFirst, first_bad};
+ghost use Rattle.page_store.specs.declared.fault.RedoFault.TheVariants.{Failed as failed, NoMemory as no_memory};
+ghost use Rattle.partition_redo.specs.Index.{base_of, ranges_of};
+ghost use Rattle.partition_redo.specs.Chains.{AllStand, IsStoredOne, AreAll, IsChain, IsRedone, IsGiven, IsListed, AnswersStored, NamesOther, NamesFirst, NamesRead, first_bad};
 
-use crate::fault::RedoFault;
 use crate::index::Index;
+use crate::planned::Planned;
 use crate::site::Chain;
 use crate::walked::index_logs;
 use disk_model::{Call, Storage};
-use page_store::{PageFault, read};
+use page_store::{PageFault, RedoFault, read};
 use pcl_base::{Config, Items, NoMemory, NodeNo, PageNo, Version};
 use std::alloc::Global;
-use std::marker::Model;
 
-/// What a redo will write, with all the memory for it.
-#[derive(Drop)]
-pub struct Planned {
-    pub(crate) config: Config,
-    pub(crate) by: NodeNo,
-    pub(crate) versions: Vec<(PageNo, Version)>,
-    pub(crate) chains: Items<Chain>,
-    /// A stored page.
-    pub(crate) raw: Vec<u8>,
-}
-
-impl Model for Planned {
-    ghost use Rattle.std.specs.Prelude.{◌≡◌, ◌+◌, length};
-    ghost use Rattle.partition_redo.specs.Chains.{PlannedView};
-
-    ghost Value = { PlannedView };
-
-    ghost view = { λ p. record { config = p.config; by = p.by; versions = p.versions.items; chains = p.chains } };
-
-    ghost invariant = { λ p. length p.raw.items ≡ p.config.size + 16 };
-}
-
-impl Planned {
-    /// What the redo answers: each listed page with its version, in the order given.
-    pub fn versions(&self) -> &[(PageNo, Version)]
-        ensures { result.now ≡ self.now.versions }
-    {
-        self.versions.as_slice()
+/// The bytes of a stored page, which are zero.
+fn stored_zero(alloc: Global, config: &Config) -> Result<Vec<u8>, RedoFault>
+    ensures length { IfOk result (λ raw. length raw.items ≡ config.now.size + 16) }
+    ensures fault { IfErr result (λ e. e ≡ no_memory) }
+{
+    match vec![in alloc; 0u8; config.size() as usize + 16] {
+        Ok(raw) => Ok(raw),
+        Err(_) => Err(RedoFault::NoMemory),
     }
 }
 
 /// The version of a stored page, which is read into `raw`.
-fn stored_version<S: Storage>(
+pub(crate) fn stored_version<S: Storage>(
     s: &mut S,
     by: NodeNo,
     page: PageNo,
@@ -60,8 +40,9 @@ fn stored_version<S: Storage>(
     requires page { IsIn (S.pages s.old) page }
     requires length { HasLength (told_at (S.pages s.old) page) (length raw.old) }
     requires size { 16 ≤ length raw.old }
-    ensures value { (d : Disk) → S.pages s.old ≡ Some d.pages → AnswersStored d page result }
+    ensures value { (d : Disk) → S.pages s.old ≡ Some d.pages → AnswersStored d page (drop 16 raw.new) result }
     ensures other { IfErr result NamesOther }
+    ensures faults { IfErr result NamesRead }
     ensures pages { S.pages s.new ≡ S.pages s.old }
     ensures logs { S.logs s.new ≡ S.logs s.old }
     ensures rooms { S.rooms s.new ≡ S.rooms s.old }
@@ -97,9 +78,11 @@ fn list_pages<S: Storage>(
     requires length { length raw.old ≡ config.now.size + 16 }
     ensures listed { OnOk result ((d : Disk) (k : ℕ) → S.pages s.old ≡ Some d.pages → k < length pages.now → IsListed d index.new (slice_index pages.now k)) }
     ensures ranges { OnOk result (index.new.ranges ≡ index.old.ranges) }
+    ensures plain { OnOk result ((p : ℕ) → IsStoredOne (base_of index.old p) → IsStoredOne (base_of index.new p)) }
     ensures first { (d : Disk) → S.pages s.old ≡ Some d.pages → IfErr result (NamesFirst d pages.now) }
     ensures good { OnOk result ((d : Disk) → S.pages s.old ≡ Some d.pages → first_bad d pages.now ≡ None) }
     ensures other { IfErr result NamesOther }
+    ensures faults { IfErr result NamesRead }
     ensures pages { S.pages s.new ≡ S.pages s.old }
     ensures logs { S.logs s.new ≡ S.logs s.old }
     ensures rooms { S.rooms s.new ≡ S.rooms s.old }
@@ -141,8 +124,9 @@ fn versions_of(alloc: Global, chains: &[Chain]) -> Result<Vec<(PageNo, Version)>
 /// Plans the redo of some pages: it reads their stored pages and walks all logs, takes all memory
 /// that the redo needs, and writes nothing. Pages are below `P`.
 ///
-/// `Failed` comes only where the storage's count of that kind of call rose. `BadPage` names the
-/// first of the pages whose stored number is neither 0 nor the page's number plus one.
+/// `Failed` comes only where the storage's count of that kind of call rose, and that is a read of a
+/// page or of a log. `BadPage` names the first of the pages whose stored number is neither 0 nor the
+/// page's number plus one.
 pub fn prepare<S: Storage>(
     alloc: Global,
     s: &mut S,
@@ -153,13 +137,18 @@ pub fn prepare<S: Storage>(
     requires sizes { HasSizes config.now (S.pages s.old) (S.logs s.old) (S.rooms s.old) }
     requires by { by < config.now.nodes }
     requires below { All (λ p. p < config.now.pages) pages.now.items }
-    ensures chains { IfOk result (λ plan. (d : Disk) → S.pages s.old ≡ Some d.pages → S.logs s.old ≡ Some d.logs → AreChains config.now d pages.now.items plan.chains) }
+    ensures chains { IfOk result (λ plan. (d : Disk) → S.pages s.old ≡ Some d.pages → S.logs s.old ≡ Some d.logs → AllByRecursion (IsChain config.now d) plan.chains) }
     ensures redone { IfOk result (λ plan. (d : Disk) → S.pages s.old ≡ Some d.pages → S.logs s.old ≡ Some d.logs → AreAll (IsRedone config.now d) pages.now.items plan.versions) }
+    ensures stand { IfOk result (λ plan. (d : Disk) → S.logs s.old ≡ Some d.logs → AllStand config.now d plan.chains) }
+    ensures below { IfOk result (λ plan. AllByRecursion (λ x. x.page < config.now.pages) plan.chains) }
+    ensures named { IfOk result (λ plan. map (λ v. v.0) plan.versions ≡ pages.now.items) }
+    ensures listed { IfOk result (λ plan. map (λ x. x.page) plan.chains ≡ pages.now.items) }
     ensures config { IfOk result (λ plan. plan.config ≡ config.now) }
     ensures node { IfOk result (λ plan. plan.by ≡ by) }
     ensures first { (d : Disk) → S.pages s.old ≡ Some d.pages → IfErr result (NamesFirst d pages.now.items) }
     ensures good { OnOk result ((d : Disk) → S.pages s.old ≡ Some d.pages → first_bad d pages.now.items ≡ None) }
     ensures other { IfErr result NamesOther }
+    ensures faults { IfErr result NamesRead }
     ensures pages { S.pages s.new ≡ S.pages s.old }
     ensures logs { S.logs s.new ≡ S.logs s.old }
     ensures rooms { S.rooms s.new ≡ S.rooms s.old }
@@ -169,7 +158,7 @@ pub fn prepare<S: Storage>(
     ensures counts { (k : Kind) → S.faults s.old k ≤ S.faults s.new k }
     ensures cause { (k : Kind) → IfErr result (λ e. e ≡ failed k → Rose (S.faults s.old k) (S.faults s.new k)) }
 {
-    let mut raw = vec![in alloc; 0u8; config.size() as usize + 16]?;
+    let mut raw = stored_zero(alloc, config)?;
     let mut index = Index::new(alloc);
     list_pages(
         s,
@@ -180,7 +169,30 @@ pub fn prepare<S: Storage>(
         &mut index,
     )?;
     index_logs(s, config, by, &mut index)?;
-    let chains = chains_of(alloc, &index, pages.as_slice())?;
+    match make_plan(alloc, config, by, &index, pages.as_slice(), raw) {
+        Ok(plan) => Ok(plan),
+        Err(NoMemory) => Err(RedoFault::NoMemory),
+    }
+}
+
+/// The plan that an index gives for some pages, with the memory of a stored page.
+fn make_plan(
+    alloc: Global,
+    config: &Config,
+    by: NodeNo,
+    index: &Index,
+    pages: &[PageNo],
+    raw: Vec<u8>,
+) -> Result<Planned, NoMemory>
+    requires by { by < config.now.nodes }
+    requires below { All (λ p. p < config.now.pages) pages.now }
+    requires length { length raw.items ≡ config.now.size + 16 }
+    ensures given { IfOk result (λ plan. AreAll (IsGiven index.now) pages.now plan.chains) }
+    ensures versions { IfOk result (λ plan. plan.versions ≡ map (λ x. (x.page, x.version)) plan.chains) }
+    ensures config { IfOk result (λ plan. plan.config ≡ config.now) }
+    ensures node { IfOk result (λ plan. plan.by ≡ by) }
+{
+    let chains = chains_of(alloc, index, pages)?;
     let versions = versions_of(alloc, chains.as_slice())?;
     Ok(Planned {
         config: *config,

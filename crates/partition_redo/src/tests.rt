@@ -1,113 +1,111 @@
-ghost use Rattle.std.specs.Prelude.{ℕ, None};
-ghost use Rattle.disk_model.specs.Disk.{Pages, Logs, Rooms};
-ghost use Rattle.disk_model.specs.Stops.{Stops, Failing};
+mod storages;
 
 use super::*;
-use disk_model::Storage;
-use pcl_base::{Config, Failed, NoMemory, NodeNo, PageNo};
+use pcl_base::{Config, PageNo};
 use std::test::Fail;
+use storages::{Long, Small};
 
-/// Page 0 at version 1, whole, and then its changes to version 3.
+/// Page 0 at version 1, whole, and its changes to version 4, each record of 37 bytes.
 const LOG_0: &[u8] =
-    b"\x00\x00\x00\x25\x00\x00\x00\x00\x01\x00\x00\x00\x01\x00\x00\x00\x01\x00\x00\x00\x00\x00\x00\x00\x00\x00\x00\x00\x01AAAAAAAA\x00\x00\x00\x25\x80\x00\x00\x00\x01\x00\x00\x00\x02\x00\x00\x00\x01\x00\x00\x00\x00\x00\x00\x00\x00\x00\x00\x00\x03\x00\x01\x00\x02\x00\x02cc";
+    b"\x00\x00\x00%\x00\x00\x00\x00\x01\x00\x00\x00\x01\x00\x00\x00\x01\x00\x00\x00\x00\x00\x00\x00\x00\x00\x00\x00\x01AAAAAAAA\x00\x00\x00%\x80\x00\x00\x00\x01\x00\x00\x00\x02\x00\x00\x00\x01\x00\x00\x00\x00\x00\x00\x00\x00\x00\x00\x00\x04\x00\x01\x00\x06\x00\x02dd";
 
-/// The changes of page 0 to version 2, and a torn record.
+/// The changes of page 0 to version 2.
 const LOG_1: &[u8] =
-    b"\x00\x00\x00\x25\x81\x00\x00\x00\x01\x00\x00\x00\x01\x00\x00\x00\x01\x00\x00\x00\x00\x00\x00\x00\x00\x00\x00\x00\x02\x00\x01\x00\x00\x00\x02bb\x00\x00\x00\x25\x81\x00\x00\x00\x01\x00\x00\x00\x02\x00\x00\x00\x01\x00\x00\x00\x00\x00\x00\x00\x00\x00\x00\x00\x04\x00\x01\x00\x00\x00\x02";
+    b"\x00\x00\x00%\x81\x00\x00\x00\x01\x00\x00\x00\x01\x00\x00\x00\x01\x00\x00\x00\x00\x00\x00\x00\x00\x00\x00\x00\x02\x00\x01\x00\x00\x00\x02bb";
 
-/// Zero pages and these two logs. It tells nothing.
-#[derive(Drop)]
-struct TwoLogs;
+/// The changes of page 0 to version 3.
+const LOG_2: &[u8] =
+    b"\x00\x00\x00%\x82\x00\x00\x00\x01\x00\x00\x00\x01\x00\x00\x00\x01\x00\x00\x00\x00\x00\x00\x00\x00\x00\x00\x00\x03\x00\x01\x00\x02\x00\x02cc";
 
-impl Storage for TwoLogs {
-    ghost pages = { λ _. None };
+/// Page 0 at version 1 twice, whole, and twice its changes to version 2.
+const TWICE: &[u8] =
+    b"\x00\x00\x00%\x00\x00\x00\x00\x01\x00\x00\x00\x01\x00\x00\x00\x01\x00\x00\x00\x00\x00\x00\x00\x00\x00\x00\x00\x01AAAAAAAA\x00\x00\x00%\x00\x00\x00\x00\x01\x00\x00\x00\x02\x00\x00\x00\x01\x00\x00\x00\x00\x00\x00\x00\x00\x00\x00\x00\x01BBBBBBBB\x00\x00\x00%\x80\x00\x00\x00\x01\x00\x00\x00\x03\x00\x00\x00\x01\x00\x00\x00\x00\x00\x00\x00\x00\x00\x00\x00\x02\x00\x01\x00\x00\x00\x02bb\x00\x00\x00%\x80\x00\x00\x00\x01\x00\x00\x00\x04\x00\x00\x00\x01\x00\x00\x00\x00\x00\x00\x00\x00\x00\x00\x00\x02\x00\x01\x00\x00\x00\x02zz";
 
-    ghost logs = { λ _. None };
+/// Page 0 at version 4, as these logs make it.
+const REDONE: &[u8; 24] =
+    b"\x00\x00\x00\x00\x00\x00\x00\x01\x00\x00\x00\x00\x00\x00\x00\x04bbccAAdd";
 
-    ghost rooms = { λ _. None };
-
-    ghost stops = { λ _. None };
-
-    ghost failing = { λ _. None };
-
-    ghost faults = { λ _ _. 0 };
-
-    fn room(&mut self, _node: NodeNo, _bytes: u64) -> Result<(), NoMemory> {
-        Ok(())
-    }
-
-    fn read_page(&mut self, _by: NodeNo, _page: PageNo, out: &mut [u8]) -> Result<(), Failed> {
-        out.fill(0);
-        Ok(())
-    }
-
-    fn log_len(&mut self, _by: NodeNo, node: NodeNo) -> Result<u64, Failed> {
-        Ok(log(node).len() as u64)
-    }
-
-    fn read_log(
-        &mut self,
-        _by: NodeNo,
-        node: NodeNo,
-        from: u64,
-        out: &mut [u8],
-    ) -> Result<(), Failed> {
-        let from = from as usize;
-        for (place, byte) in out.iter_mut().enumerate() {
-            *byte = log(node)
-                .get(from.saturating_add(place))
-                .copied()
-                .unwrap_or(0);
-        }
-        Ok(())
-    }
-
-    fn write_page(&mut self, _by: NodeNo, _page: PageNo, _bytes: &[u8]) -> Result<(), Failed> {
-        Ok(())
-    }
-
-    fn force(&mut self, _node: NodeNo, _bytes: &[u8]) -> Result<(), Failed> {
-        Ok(())
-    }
-
-    fn trim_log(&mut self, _node: NodeNo, _keep: u64) -> Result<(), Failed> {
-        Ok(())
-    }
-
-    fn cut_log(&mut self, _node: NodeNo, _count: u64) -> Result<(), Failed> {
-        Ok(())
-    }
-}
-
-/// The log of a node.
-fn log(node: NodeNo) -> &'static [u8] {
-    if node == 0 { LOG_0 } else { LOG_1 }
+/// What redo answers for page 0, which is listed twice.
+fn redone(rt: HostRuntime, storage: &mut Small) -> Result<Vec<(PageNo, u64)>, Fail> {
+    let config = Config::new(3, 2, 8, 2)?;
+    let pages = Vec::from_slice(rt.alloc(), &[0, 0])?;
+    let versions = redo(rt.alloc(), storage, &config, 0, &pages)
+        .ok()
+        .ok_or("no redo")?;
+    Ok(versions)
 }
 
 #[test]
-fn versions_are_found_in_both_logs(rt: HostRuntime) -> Result<(), Fail> {
-    let config = Config::new(2, 4, 8, 2)?;
+fn versions_are_found_in_the_listed_logs(rt: HostRuntime) -> Result<(), Fail> {
+    let config = Config::new(3, 2, 8, 2)?;
+    let mut storage = Small::open([LOG_0, LOG_1, LOG_2]);
     let pages = Vec::from_slice(rt.alloc(), &[0, 1])?;
-    let logs = Vec::from_slice(rt.alloc(), &[1, 0])?;
-    let newest = newest(rt.alloc(), &mut TwoLogs, &config, 0, &pages, &logs)
+    let logs = Vec::from_slice(rt.alloc(), &[2, 1])?;
+    let newest = newest(rt.alloc(), &mut storage, &config, 0, &pages, &logs)
         .ok()
         .ok_or("no versions")?;
     assert_eq!(rt; newest.as_slice(), [3, 0].as_slice());
-    let second = Vec::from_slice(rt.alloc(), &[1])?;
-    let torn = super::newest(rt.alloc(), &mut TwoLogs, &config, 0, &pages, &second)
-        .ok()
-        .ok_or("no versions")?;
-    assert_eq!(rt; torn.as_slice(), [2, 0].as_slice());
     Ok(())
 }
 
 #[test]
-fn a_chain_crosses_logs(rt: HostRuntime) -> Result<(), Fail> {
-    let config = Config::new(2, 4, 8, 2)?;
-    let pages = Vec::from_slice(rt.alloc(), &[1, 0])?;
-    let plan = prepare(rt.alloc(), &mut TwoLogs, &config, 0, &pages)
+fn a_log_larger_than_memory(rt: HostRuntime) -> Result<(), Fail> {
+    let config = Config::new(1, 1, 4096, 2)?;
+    let pages = Vec::from_slice(rt.alloc(), &[0])?;
+    let logs = Vec::from_slice(rt.alloc(), &[0])?;
+    let newest = newest(rt.alloc(), &mut Long, &config, 0, &pages, &logs)
         .ok()
-        .ok_or("no plan")?;
-    assert_eq!(rt; plan.versions(), [(1, 0), (0, 3)].as_slice());
+        .ok_or("no versions")?;
+    assert_eq!(rt; newest.as_slice(), [1].as_slice());
+    Ok(())
+}
+
+#[test]
+fn a_plan_writes_nothing_until_it_is_applied(rt: HostRuntime) -> Result<(), Fail> {
+    let config = Config::new(3, 2, 8, 2)?;
+    let mut storage = Small::open([LOG_0, LOG_1, LOG_2]);
+    let pages = Vec::from_slice(rt.alloc(), &[1, 0])?;
+    let Ok(mut plan) = prepare(rt.alloc(), &mut storage, &config, 0, &pages) else {
+        return Err(Fail::from("no plan"));
+    };
+    assert_eq!(rt; plan.versions(), [(1, 0), (0, 4)].as_slice());
+    assert_eq!(rt; storage.writes, 0);
+    assert_eq!(rt; plan.apply(&mut storage), Ok(()));
+    assert_eq!(rt; storage.writes, 1);
+    assert_eq!(rt; storage.first(), *REDONE);
+    Ok(())
+}
+
+#[test]
+fn a_chain_crosses_three_logs(rt: HostRuntime) -> Result<(), Fail> {
+    let mut storage = Small::open([LOG_0, LOG_1, LOG_2]);
+    let versions = redone(rt, &mut storage)?;
+    assert_eq!(rt; versions.as_slice(), [(0, 4), (0, 4)].as_slice());
+    assert_eq!(rt; storage.first(), *REDONE);
+    assert_eq!(rt; storage.writes, 1);
+    let again = redone(rt, &mut storage)?;
+    assert_eq!(rt; again.as_slice(), [(0, 4), (0, 4)].as_slice());
+    assert_eq!(rt; storage.writes, 1);
+    Ok(())
+}
+
+#[test]
+fn a_record_torn_at_every_length(rt: HostRuntime) -> Result<(), Fail> {
+    for length in 37..74 {
+        let log = LOG_0.get(..length).ok_or("no such length")?;
+        let mut storage = Small::open([log, LOG_1, LOG_2]);
+        let versions = redone(rt, &mut storage)?;
+        assert_eq!(rt; versions.as_slice(), [(0, 3), (0, 3)].as_slice());
+    }
+    Ok(())
+}
+
+#[test]
+fn the_first_of_two_records_of_a_version_counts(rt: HostRuntime) -> Result<(), Fail> {
+    let mut storage = Small::open([TWICE, b"", b""]);
+    let versions = redone(rt, &mut storage)?;
+    assert_eq!(rt; versions.as_slice(), [(0, 2), (0, 2)].as_slice());
+    let stored = storage.first();
+    assert_eq!(rt; &stored[16..], b"bbAAAAAA".as_slice());
     Ok(())
 }

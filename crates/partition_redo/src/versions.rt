@@ -8,12 +8,12 @@ ghost use Rattle.run_rules.specs.Disk.{Disk, log_at};
 ghost use Rattle.run_rules.specs.Redo.{greatest, records_in};
 ghost use Rattle.redo_log.specs.Told.{NoneFails};
 ghost use Rattle.redo_log.specs.Placed.{placed_of};
-ghost use Rattle.partition_redo.specs.declared.fault.RedoFault.TheVariants.{Failed as failed, NoMemory as no_memory};
+ghost use Rattle.page_store.specs.declared.fault.RedoFault.TheVariants.{Failed as failed, NoMemory as no_memory};
 ghost use Rattle.partition_redo.specs.Newest.{seen_all, seen_logs};
 
-use crate::fault::RedoFault;
 use crate::greatest::Greatest;
 use disk_model::{Call, Storage};
+use page_store::RedoFault;
 use pcl_base::{Config, Failed, NodeNo, PageNo, Version};
 use redo_log::Walk;
 use std::alloc::Global;
@@ -62,6 +62,7 @@ pub fn newest<S: Storage>(
     requires sizes { HasSizes config.now (S.pages s.old) (S.logs s.old) (S.rooms s.old) }
     requires by { by < config.now.nodes }
     requires nodes { All (λ n. n < config.now.nodes) logs.now.items }
+    ensures len { IfOk result (λ vs. length vs.items ≡ length pages.now.items) }
     ensures versions { IfOk result (λ vs. (d : Disk) → S.logs s.old ≡ Some d.logs → vs.items ≡ map (greatest (records_in config.now d logs.now.items)) pages.now.items) }
     ensures pages { S.pages s.new ≡ S.pages s.old }
     ensures logs { S.logs s.new ≡ S.logs s.old }

@@ -7,12 +7,12 @@ ghost use Rattle.run_rules.specs.Disk.{Disk, log_at};
 ghost use Rattle.run_rules.specs.Views.{count_from};
 ghost use Rattle.redo_log.specs.Told.{NoneFails};
 ghost use Rattle.redo_log.specs.Placed.{placed_of};
-ghost use Rattle.partition_redo.specs.declared.fault.RedoFault.TheVariants.{Failed as failed, NoMemory as no_memory};
+ghost use Rattle.page_store.specs.declared.fault.RedoFault.TheVariants.{Failed as failed, NoMemory as no_memory};
 ghost use Rattle.partition_redo.specs.Index.{known, known_all, known_logs};
 
-use crate::fault::RedoFault;
 use crate::index::Index;
 use disk_model::{Call, Storage};
+use page_store::RedoFault;
 use pcl_base::{Config, Failed, NodeNo};
 use redo_log::Walk;
 

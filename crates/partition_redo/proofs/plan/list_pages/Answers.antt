@@ -1,9 +1,11 @@
-use Rattle.std.proofs.Common.{◌≡◌, ℕ, ◌+◌, ◌<◌, ◌∷◌, ap, sym, subst, ◌∙◌, refl, arith, drop, slice_index, nat_eq, Bool, true, false, Some, drop-cons, add-one}
+use Rattle.std.proofs.Common.{◌≡◌, ℕ, ◌+◌, ◌<◌, ◌==◌, ◌∷◌, ap, sym, subst, ◌∙◌, refl, arith, drop, slice_index, nat_eq, Bool, true, false, Some, drop-cons, add-one}
 use Rattle.std.proofs.lemmas.Bool.Decides.{nat_tests}
 use Rattle.run_rules.specs.Disk.{Disk}
 use Rattle.partition_redo.specs.Chains.{IsListed, bad_or, first_bad}
 use Rattle.partition_redo.proofs.Walking.{sizes_kept}
+use Rattle.partition_redo.specs.Index.{base_of}
 use Rattle.partition_redo.proofs.Plans.{listed_here, listed_before}
+use Rattle.partition_redo.proofs.Standing.{stored_one}
 use Rattle.partition_redo.proofs.plan.list_pages.Goals as goal
 
 pub loop-page-preserved : goal.loop-page-preserved
@@ -23,6 +25,7 @@ loop-page-preserved g c =
       calm = λ f quiet. next.calm f (inv.calm f quiet);
       later = λ k. let first = inv.later k in let more = next.counts k in omega arith;
       ranges = c.in_ok-list.ensures.ranges ∙ inv.ranges;
+      plain = λ p before. stored_one (page == p) c.in_ok-version.version (base_of c.loop-page.index p) (base_of c.list.new.self p) (c.in_ok-list.ensures.bases p) (inv.plain p before);
       listed = λ d k t below. at d k t below (nat_eq k c.loop-page.page-index) refl;
       first = λ d t.
           let value = next.value d (back d t) in

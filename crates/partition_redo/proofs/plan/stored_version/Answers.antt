@@ -10,7 +10,7 @@ returns-in-Ok-clause-value g c = λ d told.
     let page : PageAt = record { version = c.in-Ok.version; bytes = drop 16 c.read.new.raw } in
     let is : stored_page c.args.page (raw_page d.pages c.args.page) ≡ Ok page =
     subst (λ (o : Option (List ℕ)). IfSome o (λ b. stored_page c.args.page b ≡ Ok page)) found c.in-Ok.ensures.value in
-    (page, is, refl)
+    (page, is, refl, refl)
 
 pub returns-in-Err-BadPage-clause-value : goal.returns-in-Err-BadPage-clause-value
 returns-in-Err-BadPage-clause-value g c = λ d told.

@@ -12,10 +12,10 @@ returns-in-Ok-clause-versions g c = λ d told.
     let found = λ (k : ℕ) (inside : k < length c.as_slice-in-Ok.result.now).
     let at : ℕ = slice_index c.as_slice-in-Ok.result.now k in
     let first : lookup (nat_eq at) c.in_ok-greatest.greatest ≡ Some 0 =
-    ap (λ (xs : List ℕ). lookup (nat_eq (slice_index xs k)) c.in_ok-greatest.greatest) same ∙ c.in_ok-greatest.ensures k (subst (λ (xs : List ℕ). k < length xs) same inside) in
+    ap (λ (xs : List ℕ). lookup (nat_eq (slice_index xs k)) c.in_ok-greatest.greatest) same ∙ c.in_ok-greatest.ensures.zero k (subst (λ (xs : List ℕ). k < length xs) same inside) in
     c.in-Ok.ensures.seen d at told
     ∙ ap (λ (ns : List ℕ). seen_logs c.args.config.now d at ns (lookup (nat_eq at) c.in_ok-greatest.greatest)) nodes
     ∙ ap (seen_logs c.args.config.now d at c.args.logs.now.items) first
     ∙ seen_is_greatest c.args.config.now d at c.args.logs.now.items in
-    c.in_ok-versions-in-Ok.ensures (greatest (records_in c.args.config.now d c.args.logs.now.items)) found
+    c.in_ok-versions-in-Ok.ensures.all (greatest (records_in c.args.config.now d c.args.logs.now.items)) found
     ∙ ap (map (greatest (records_in c.args.config.now d c.args.logs.now.items))) c.as_slice-in-Ok.ensures.value

@@ -5,8 +5,8 @@ use Rattle.partition_redo.specs.Index.{IndexView, ranges_of}
 use Rattle.partition_redo.proofs.Noted.{next_more}
 use Rattle.partition_redo.proofs.index.Index.chain_from.Goals as goal
 
-pub returns-in-None : goal.returns-in-None
-returns-in-None c =
+pub returns-in-None-clause-follows : goal.returns-in-None-clause-follows
+returns-in-None-clause-follows c =
     record {
       page_same = refl;
       more = c.loop-version.invariant.more;

@@ -1,0 +1,8 @@
+ghost use Rattle.partition_redo.specs.Plans.{ChainsStay, EntriesStay};
+
+/// A law, as the clauses of an empty function: what `prepare` says of a plan holds until a listed
+/// page or a whole record of a log changes. A torn rest, its trim and other pages don't matter.
+pub fn plan_stays()
+    ensures chains { ChainsStay }
+    ensures entries { EntriesStay }
+{}
