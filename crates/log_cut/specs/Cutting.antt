@@ -1,6 +1,5 @@
 -- The length that may be cut of a log, page by page of its whole records.
 use Rattle.std.specs.Prelude.{◌≡◌, ◌≢◌, ℕ, ◌+◌, nat_le, Bool, true, false, List, [], ◌∷◌, Result, Ok, Err, ⊤}
-use Rattle.pcl_base.specs.declared.trace.Call.{Call}
 use Rattle.page_store.specs.declared.fault.RedoFault.{RedoFault}
 use Rattle.page_store.specs.declared.fault.RedoFault.TheVariants.{Failed, BadPage, NoMemory}
 use Rattle.node_rules.specs.Work.{Outcome, Goes, Differs, and_then, read_page}

@@ -4,8 +4,10 @@
 //! at their versions or later ones.
 
 mod cut;
+mod laws;
 #[cfg(test)]
 mod tests;
 
 pub use cut::cuttable;
+pub use laws::cut_keeps_redo;
 pub use page_store::RedoFault;

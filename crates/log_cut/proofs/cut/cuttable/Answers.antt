@@ -1,12 +1,11 @@
-use Rattle.std.proofs.Common.{rules, ◌≡◌, refl, sym, ap, subst, ◌∙◌, ℕ, ◌+◌, ◌*◌, ◌<◌, List, length, Some, None, Err, arith}
+use Rattle.std.proofs.Common.{◌≡◌, refl, sym, ap, subst, ◌∙◌, ℕ, ◌*◌, length, Some, None, Err, arith}
 use Rattle.disk_model.specs.Disk.{told_at, HasLength}
 use Rattle.node_rules.specs.Work.{Outcome, Goes}
 use Rattle.redo_log.specs.Told.{IsLog}
 use Rattle.redo_log.specs.Walks.{node_of, to_come, first_seen}
 use Rattle.redo_log.proofs.Rising.{RisesFrom, rises_lower, placed_rises, rise_step}
-use Rattle.node_rules.specs.CutRule.{cuttable}
-use Rattle.log_cut.specs.Cutting.{cut_if, cut_from, cut_step}
-use Rattle.log_cut.proofs.CuttingLemmas.{cut_of_log, cut_next, cut_ended, cut_faulted, log_is_in, page_is_in, page_is_long, sizes_kept, err_same}
+use Rattle.log_cut.specs.Cutting.{cut_if, cut_from}
+use Rattle.log_cut.proofs.CuttingLemmas.{cut_of_log, cut_next, cut_ended, cut_faulted, page_is_long, sizes_kept, err_same}
 use Rattle.log_cut.proofs.cut.cuttable.Goals as goal
 
 pub loop-init : goal.loop-init
