@@ -8,12 +8,15 @@
 //! - `begin`, `add`, `wait`, `set-kind`, `read`, `end`: these calls of open transactions, while N
 //!   are open;
 //! - `hit`, `replace`: a page of a full buffer of N frames is used again, or another one takes the
-//!   place of the last one in use.
+//!   place of the last one in use;
+//! - `prepare`, `prepare-large`, `prepare-ranges`: redo is planned over a log of N records, with
+//!   images of 8 bytes, with images of 1,024 bytes, and with one changed byte.
 #![tactic(auto)]
 
 mod buffers;
 mod locks;
 mod one_node;
+mod redo;
 mod transactions;
 mod words;
 
@@ -113,5 +116,8 @@ fn count(alloc: Global, measured: Measured, size: u32, rounds: u32) -> Result<us
         Measured::End => transactions::ends(alloc, size, rounds),
         Measured::Hit => buffers::hits(alloc, size, rounds),
         Measured::Replace => buffers::replacements(alloc, size, rounds),
+        Measured::Prepare => redo::images(alloc, 8, size, rounds),
+        Measured::PrepareLarge => redo::images(alloc, 1_024, size, rounds),
+        Measured::PrepareRanges => redo::ranges(alloc, size, rounds),
     }
 }

@@ -14,11 +14,14 @@ pub(crate) enum Measured {
     End,
     Hit,
     Replace,
+    Prepare,
+    PrepareLarge,
+    PrepareRanges,
 }
 
 /// The measurement of a word.
 pub(crate) fn named(word: &str) -> Option<Measured> {
-    const NAMES: [(&str, Measured); 11] = [
+    const NAMES: [(&str, Measured); 14] = [
         ("one-node", Measured::OneNode),
         ("locks", Measured::Locks),
         ("settle", Measured::Settle),
@@ -30,6 +33,9 @@ pub(crate) fn named(word: &str) -> Option<Measured> {
         ("end", Measured::End),
         ("hit", Measured::Hit),
         ("replace", Measured::Replace),
+        ("prepare", Measured::Prepare),
+        ("prepare-large", Measured::PrepareLarge),
+        ("prepare-ranges", Measured::PrepareRanges),
     ];
     for (name, measured) in NAMES {
         if name == word {
