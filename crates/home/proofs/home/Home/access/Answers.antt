@@ -1,0 +1,14 @@
+use Rattle.std.proofs.Common.{sym, ◌∙◌}
+use Rattle.home_laws.proofs.Accessed.{access_sound}
+use Rattle.home.specs.Asked.{asked}
+use Rattle.home.specs.Device.{work_on}
+use Rattle.home.proofs.Doing.{after_home}
+use Rattle.home.proofs.home.Home.access.Goals as goal
+
+pub invariant_of-self : goal.invariant_of-self
+invariant_of-self g c =
+    let none = sym c.access_refusal.ensures ∙ c.in-None.is in (
+      after_home c.access.result c.self.inside.parts.home c.access.new.self.home _ c.access.ensures.home c.self.invariant.0
+          (access_sound (asked c.args.a.now) c.args.owned (work_on c.self.inside.parts.home) c.self.invariant.0 none),
+      c.access.ensures.prepared,
+    )

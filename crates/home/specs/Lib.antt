@@ -1,0 +1,6 @@
+pub mod Answers
+pub mod Asked
+pub mod Device
+pub mod Ends
+pub mod Parts
+pub mod Places
