@@ -1,0 +1,7 @@
+use mathlib.Core.Path.{refl}
+use Rattle.frame_rules.proofs.Opened.{frame_rules}
+use Rattle.frame_rules.proofs.frame_rows.row_of_good_frames.Goals as goal
+
+pub returns : goal.returns
+unfolding frame_rules
+returns c = record { bytes = refl; read = refl }

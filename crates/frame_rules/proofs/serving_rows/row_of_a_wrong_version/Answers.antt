@@ -1,0 +1,7 @@
+use mathlib.Core.Path.{refl}
+use Rattle.frame_rules.proofs.Opened.{frame_rules}
+use Rattle.frame_rules.proofs.serving_rows.row_of_a_wrong_version.Goals as goal
+
+pub returns : goal.returns
+unfolding frame_rules
+returns c = refl
