@@ -1,0 +1,4 @@
+pub mod ViewLemmas
+pub mod ReadingLemmas
+pub mod FrontLaws
+pub mod Again

@@ -1,0 +1,4 @@
+pub mod Seen
+pub mod Front
+pub mod Laws
+pub mod Written
