@@ -1,0 +1,5 @@
+mod CountLemmas
+mod ListLemmas
+mod ViewLemmas
+mod RaiseLemmas
+mod SendLemmas

@@ -1,0 +1,10 @@
+use Rattle.std.proofs.Common.{rules, ap, ◌∙◌, not}
+use Rattle.std.specs.List.{filter}
+use Rattle.std.proofs.lemmas.Fn.{filter_same}
+use Rattle.run_rules.specs.Ledger.{Want, is_new}
+use Rattle.msg_account.proofs.wants.Wants.drop_new.Goals as goal
+
+pub returns : goal.returns
+returns c =
+    filter_same _ (λ (x : Want). not (is_new c.args.view.now c.args.config.now c.args.node x.page)) _ (λ x b f call. search rules) _ _ c.retain.ensures.filtered
+    ∙ ap (filter (λ (x : Want). not (is_new c.args.view.now c.args.config.now c.args.node x.page))) c.self.view_is
