@@ -1,10 +1,10 @@
-ghost use Rattle.std.specs.Prelude.{◌≡◌, ℕ, ◌≤◌, None, Bool, true, false, Err};
+ghost use Rattle.std.specs.Prelude.{◌≡◌, ◌≢◌, ℕ, ◌≤◌, None, Bool, true, false, Err};
 ghost use Rattle.pcl_base.specs.Faults.{Rose};
 ghost use Rattle.pcl_base.specs.declared.trace.Call.{Call as Kind};
 ghost use Rattle.disk_model.specs.Disk.{HasSizes};
 ghost use Rattle.node_rules.specs.Work.{write_back};
 ghost use Rattle.home_laws.specs.Homes.{IsHome};
-ghost use Rattle.home.specs.declared.fault.HomeFault.TheVariants.{Failed as failed};
+ghost use Rattle.home.specs.declared.fault.HomeFault.TheVariants.{Failed as failed, NoMemory as no_memory};
 ghost use Rattle.home.specs.Device.{work_on, Made, RoseIf};
 ghost use Rattle.home.specs.Answers.{evict_refusal, flush_refusal, evict_copy, refused_as, home_after, Leaves, answer_if};
 
@@ -21,6 +21,7 @@ impl Home {
     pub fn evict<S: Storage>(&mut self, page: PageNo, s: &mut S) -> Result<(), HomeFault>
         requires sizes { HasSizes self.old.config (S.pages s.old) (S.logs s.old) (S.rooms s.old) }
         ensures refused { refused_as result ≡ evict_refusal page self.old }
+        ensures memory { result ≢ Err no_memory }
         ensures home { self.new ≡ home_after result self.old (evict_copy page (work_on self.old)).home }
         ensures pages { Leaves result (evict_copy page (work_on self.old)).calls (S.pages s.old) (S.pages s.new) }
         ensures sizes { HasSizes self.old.config (S.pages s.new) (S.logs s.new) (S.rooms s.new) }
@@ -45,6 +46,7 @@ impl Home {
     pub fn flush<S: Storage>(&mut self, page: PageNo, s: &mut S) -> Result<(), HomeFault>
         requires sizes { HasSizes self.old.config (S.pages s.old) (S.logs s.old) (S.rooms s.old) }
         ensures refused { refused_as result ≡ flush_refusal page self.old }
+        ensures memory { result ≢ Err no_memory }
         ensures home { self.new ≡ home_after result self.old (write_back page (work_on self.old)).home }
         ensures pages { Leaves result (write_back page (work_on self.old)).calls (S.pages s.old) (S.pages s.new) }
         ensures sizes { HasSizes self.old.config (S.pages s.new) (S.logs s.new) (S.rooms s.new) }
