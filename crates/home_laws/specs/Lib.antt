@@ -1,5 +1,6 @@
 pub mod AccessLaws
 pub mod AccessNeeds
+pub mod Agreement
 pub mod EndLaws
 pub mod EndNeeds
 pub mod Homes

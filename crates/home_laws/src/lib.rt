@@ -13,4 +13,4 @@ pub use end_laws::{
     evict_is_sound, give_up_is_sound, put_change_is_sound, record_is_sound, take_over_is_sound,
     write_back_is_sound,
 };
-pub use laws::open_home_is_sound;
+pub use laws::{open_home_is_sound, refusals_agree};
