@@ -58,11 +58,17 @@ kept_at (x ∷ ls) zero (suc k) n l more h = h
 kept_at (x ∷ ls) (suc i) zero n l more h = h
 kept_at (x ∷ ls) (suc i) (suc k) n l more h = kept_at ls i k n l more h
 
+-- a changed log leaves as many rooms
+rooms_many : (ls : List LogDisk) (i : ℕ) (l : LogDisk) → length (rooms_in (slice_set ls i l)) ≡ length (rooms_in ls)
+rooms_many [] i l = refl
+rooms_many (x ∷ ls) zero l = refl
+rooms_many (x ∷ ls) (suc i) l = ap suc (rooms_many ls i l)
+
 -- where the changed log has at least its room, no room is lowered
 pub rooms_kept : (ls : List LogDisk) (i : ℕ) (d l : LogDisk) → i < length ls → (slice_index_or ls i d).room ≤ l.room → NotLowered (Some (rooms_in ls)) (Some (rooms_in (slice_set ls i l)))
 rooms_kept ls i d l within more =
     let least : (slice_index_or ls i no_log).room ≤ l.room = rw (found_room ls i d within) more in
-    record { kept = λ k n h. kept_at ls i k n l least h }
+    record { kept = λ k n h. kept_at ls i k n l least h; many = λ n h. rooms_many ls i l ∙ h }
 
 named_at : (ls : List LogDisk) (i n by : ℕ) (l : LogDisk) → (slice_index_or ls i no_log).room ≤ l.room + by → n + by ≤ slice_index_or (rooms_in ls) i 0 → n ≤ slice_index_or (rooms_in (slice_set ls i l)) i 0
 named_at [] i n by l more h = omega arith
@@ -80,4 +86,4 @@ other_at (x ∷ ls) (suc i) (suc k) n l ne h = other_at ls i k n l (λ e. ne (ap
 pub rooms_lowered : (ls : List LogDisk) (i by : ℕ) (d l : LogDisk) → i < length ls → (slice_index_or ls i d).room ≤ l.room + by → LoweredAtMost (Some (rooms_in ls)) (Some (rooms_in (slice_set ls i l))) i by
 rooms_lowered ls i by d l within more =
     let least : (slice_index_or ls i no_log).room ≤ l.room + by = rw (found_room ls i d within) more in
-    record { named = λ n h. named_at ls i n by l least h; others = λ k n ne h. other_at ls i k n l ne h }
+    record { many = λ n h. rooms_many ls i l ∙ h; named = λ n h. named_at ls i n by l least h; others = λ k n ne h. other_at ls i k n l ne h }

@@ -37,12 +37,18 @@ ReachesTo o n = IfSome o (λ b. n ≤ length b)
 abbrev pub HasRoom : Rooms → ℕ → ℕ → Type 0
 HasRoom rooms node n = IfSome rooms (λ l. n ≤ slice_index l node)
 
--- no spare room is lower than before
+-- so many logs have a spare room
+abbrev pub AreRooms : Rooms → ℕ → Type 0
+AreRooms rooms n = IfSome rooms (λ l. length l ≡ n)
+
+-- no spare room is lower than before, and none is gone
 pub record NotLowered (old new : Rooms) : Type 0 where
   pub kept : (node n : ℕ) → HasRoom old node n → HasRoom new node n
+  pub many : (n : ℕ) → AreRooms old n → AreRooms new n
 
--- the spare room of one log is lower by k at most, and that of no other
+-- the spare room of one log is lower by k at most, and that of no other; none is gone
 pub record LoweredAtMost (old new : Rooms) (node k : ℕ) : Type 0 where
+  pub many : (n : ℕ) → AreRooms old n → AreRooms new n
   pub named : (n : ℕ) → HasRoom old node (n + k) → HasRoom new node n
   pub others : (other n : ℕ) → other ≢ node → HasRoom old other n → HasRoom new other n
 
@@ -76,4 +82,4 @@ pub record AppendsPrefix (old new : Logs) (node : ℕ) (bytes : List ℕ) : Type
 pub record HasSizes (c : Sizes) (pages : Pages) (logs : Logs) (rooms : Rooms) : Type 0 where
   pub pages_told : IfSome pages (λ l. (length l ≡ c.pages) × All (λ b. length b ≡ c.size + 16) l)
   pub logs_told : IfSome logs (λ l. length l ≡ c.nodes)
-  pub rooms_told : IfSome rooms (λ l. length l ≡ c.nodes)
+  pub rooms_told : AreRooms rooms c.nodes
