@@ -141,6 +141,16 @@ impl Shelf {
         }
     }
 
+    /// Whether a right of the page is there.
+    pub fn has(&self, page: PageNo) -> bool
+        ensures { result ≡ is_some (right_on self.now.rights page) }
+    {
+        match self.rights.get(&page) {
+            Some(_right) => true,
+            None => false,
+        }
+    }
+
     /// The number of rights.
     pub fn count(&self) -> usize
         ensures { result ≡ length self.now.rights }
