@@ -149,18 +149,41 @@ measured_of : (t : Bool) (n : ℕ) → (t ≡ false → n ≡ 0) → 1 ≤ n →
 measured_of true n h some = refl
 measured_of false n h some = absurd (omega (arith, h refl))
 
+-- a record ends where its last entry does
+last_place : (c : Sizes) (w : Bool) (low n whole limit next : ℕ) (log : List ℕ) → limit ≤ length log → next ≤ limit
+    → rest_of (changes_field c w low n (slice_range log next limit)) ≡ Some [] → pick (n == 0) next whole ≡ pick (n == 0) limit whole
+last_place c w low zero whole limit next log within there left =
+    let none : slice_range log next limit ≡ [] = cc in
+    let same : next ≡ limit = omega (arith, slice_long log next limit within, ap length none) in
+    ap (λ (p : ℕ). pick (zero == 0) p whole) same
+last_place c w low (suc n) whole limit next log within there left = by (suc n == 0) refl
+  where
+    by : (t : Bool) → (suc n == 0) ≡ t → pick t next whole ≡ pick t limit whole
+    by true f = absurd (grind (arith, nat_tests))
+    by false f = refl
+
 -- the answer of an entry, by a walk that was opened
 pub answered_at : (u w v : Standing) (log : List ℕ) (h : Head) (place : ℕ) → u ≡ w → Stands w log → (u.is_measured ≡ false → u.pending ≡ 0) → 1 ≤ w.pending
     → place ≡ u.reading.place → u.reading.place ≤ u.reading.limit
     → Reads v.reading log → v.reading.limit ≡ u.reading.limit → v.reading.place ≤ v.reading.limit
     → IsEntry u.config u.format u.low (left_of u.reading log) h (left_of v.reading log)
-    → v.whole ≡ pick (u.pending - 1 == 0) v.reading.limit u.whole
+    → v.whole ≡ pick (u.pending - 1 == 0) v.reading.place u.whole
     → v ≡ record u { reading = v.reading; pending = u.pending - 1; low = h.page + 1; whole = v.whole }
     → Answers w v log (record { page = h.page; version = h.version; place = place; whole = u.format })
 answered_at u w v log h place e stands fresh some at here reads limit there entry kept is =
     let started : Stands u log = subst (λ (t : Standing). Stands t log) (sym e) stands in
     let more : 1 ≤ u.pending = omega (arith, ap (λ (t : Standing). t.pending) e) in
-    let whole : v.whole ≡ pick (u.pending - 1 == 0) u.reading.limit u.whole = kept ∙ ap (λ (l : ℕ). pick (u.pending - 1 == 0) l u.whole) limit in
+    let n : ℕ = u.pending - 1 in
+    let many : u.pending ≡ suc n = omega arith in
+    let further : Result (List Logged × List ℕ) Stop = changes_field u.config u.format (h.page + 1) n (left_of v.reading log) in
+    let one : Logged = record { page = h.page; version = h.version; part = entry.part } in
+    let all : rest_of (changes_field u.config u.format u.low (suc n) (left_of u.reading log)) ≡ Some [] =
+    subst (λ (k : ℕ). rest_of (changes_field u.config u.format u.low k (left_of u.reading log)) ≡ Some []) many started.pending in
+    let left : rest_of further ≡ Some [] = sym (ap rest_of (entry.changes n) ∙ rest_given (λ (xs : List Logged). one ∷ xs) further) ∙ all in
+    let whole : v.whole ≡ pick (u.pending - 1 == 0) u.reading.limit u.whole =
+    kept
+    ∙ last_place u.config u.format (h.page + 1) n u.whole v.reading.limit v.reading.place log reads.within there left
+    ∙ ap (λ (l : ℕ). pick (u.pending - 1 == 0) l u.whole) limit in
     let made : v ≡ record u { reading = v.reading; pending = u.pending - 1; low = h.page + 1; whole = pick (u.pending - 1 == 0) u.reading.limit u.whole } =
     is ∙ ap (λ (k : ℕ). let t : Standing = record u { reading = v.reading; pending = u.pending - 1; low = h.page + 1; whole = k } in t) whole in
     let answer = answered u v log h started (measured_of u.is_measured u.pending fresh more) more here reads limit there entry made in

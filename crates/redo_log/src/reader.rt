@@ -32,7 +32,11 @@ impl From<Failed> for Halt {
     }
 }
 
-/// The bytes of a log from a place up to a limit, read in pieces.
+/// The bytes that are worth a call of their own: to pass over fewer costs less in one long piece.
+const FAR: u64 = 256;
+
+/// The bytes of a log from a place up to a limit, read in pieces. Behind bytes that were passed
+/// over and are far more than a head (`is_far`) the next piece is short.
 #[derive(Drop)]
 pub(crate) struct Reader {
     node: NodeNo,
@@ -41,6 +45,7 @@ pub(crate) struct Reader {
     end: u64,
     from: u64,
     count: usize,
+    is_far: bool,
     piece: [u8; 4096],
 }
 
@@ -67,6 +72,7 @@ impl Reader {
             end: 0,
             from: 0,
             count: 0,
+            is_far: false,
             piece: [0; 4096],
         }
     }
@@ -77,14 +83,6 @@ impl Reader {
         ensures within { (self.now.place ≤ self.now.limit) × (self.now.limit ≤ self.now.end) }
     {
         self.place
-    }
-
-    /// The place where reading ends.
-    pub(crate) fn limit(&self) -> u64
-        ensures value { result ≡ self.now.limit }
-        ensures within { (self.now.place ≤ self.now.limit) × (self.now.limit ≤ self.now.end) }
-    {
-        self.limit
     }
 
     /// Stands at a place with nothing at hand, and reads up to a limit.
@@ -165,6 +163,7 @@ impl Reader {
             return Err(self.stop(Fault::Short));
         }
         self.place += count;
+        self.is_far = count > FAR;
         Ok(())
     }
 

@@ -186,7 +186,8 @@ impl Walk {
             Ok(head) => {
                 self.low = head.page + 1;
                 self.pending -= 1;
-                self.whole = whole_then(self.pending, self.reader.limit(), self.whole);
+                let end = self.reader.place();
+                self.whole = whole_then(self.pending, end, self.whole);
                 Ok(Some(Seen {
                     page: head.page,
                     version: head.version,
@@ -207,10 +208,11 @@ impl Walk {
     }
 }
 
-/// The length of the whole records that are answered: the record is, where no more of its pages
-/// are pending.
-fn whole_then(pending: u32, limit: u64, whole: u64) -> u64
-    ensures { result ≡ pick (pending == 0) limit whole }
+/// The length of the whole records that are answered: the record is, up to the end of the page
+/// answered last, where no more of its pages are pending. To take that end and not the length that
+/// the record tells lets the processor go on to the next record while it waits for this one.
+fn whole_then(pending: u32, end: u64, whole: u64) -> u64
+    ensures { result ≡ pick (pending == 0) end whole }
 {
-    if pending == 0 { limit } else { whole }
+    if pending == 0 { end } else { whole }
 }

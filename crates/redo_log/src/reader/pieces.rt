@@ -17,12 +17,12 @@ use pcl_base::{Failed, NodeNo};
 /// The most bytes of a piece.
 const PIECE: u64 = 4_096;
 
-/// The bytes of a piece that doesn't go on from the one before: behind an image that was passed
-/// over only a head is read.
-const HEAD: u64 = 64;
+/// The bytes of a piece behind many bytes that were passed over. The heads of a record, of its
+/// first entry and of that one's first range take 35.
+const HEAD: u64 = 36;
 
 impl Reader {
-    /// The next `N` bytes, which are at most 64.
+    /// The next `N` bytes, which are at most 36.
     pub(crate) fn bytes<const N: usize, S: Storage>(
         &mut self,
         s: &mut S,
@@ -32,7 +32,7 @@ impl Reader {
         requires node { IsIn (S.logs s.old) self.old.node }
         requires reads { (log : List ℕ) → IsLog (S.logs s.old) self.old.node log → Reads self.old log }
         requires some { 1 ≤ N }
-        requires small { N ≤ 64 }
+        requires small { N ≤ 36 }
         ensures ok { IfOk result (λ bytes. (log : List ℕ) → IsLog (S.logs s.old) self.old.node log → piece N (left_of self.old log) ≡ Ok (bytes, left_of self.new log)) }
         ensures err { IfErr result (λ e. IfSome (halt_stop e) (λ t. (log : List ℕ) → IsLog (S.logs s.old) self.old.node log → piece N (left_of self.old log) ≡ Err t)) }
         ensures place { OnOk result (self.new.place ≡ self.old.place + N) }
@@ -93,7 +93,7 @@ impl Reader {
         requires node { IsIn (S.logs s.old) self.old.node }
         requires reads { (log : List ℕ) → IsLog (S.logs s.old) self.old.node log → Reads self.old log }
         requires some { 1 ≤ count }
-        requires small { count ≤ 64 }
+        requires small { count ≤ 36 }
         ensures from { OnOk result (self.new.from ≤ self.new.place) }
         ensures there { OnOk result (self.new.place + count ≤ self.new.from + length self.new.piece) }
         ensures within { OnOk result (self.new.place + count ≤ self.new.limit) }
@@ -130,10 +130,9 @@ impl Reader {
 
     /// How long the next piece is to be.
     fn ahead(&self) -> u64
-        ensures { (result ≡ 64) ⊎ (result ≡ 4096) }
+        ensures { (result ≡ 36) ⊎ (result ≡ 4096) }
     {
-        let goes_on = self.from <= self.place && self.place - self.from <= self.count as u64;
-        if goes_on { PIECE } else { HEAD }
+        if self.is_far { HEAD } else { PIECE }
     }
 
     /// Reads the piece that begins at the place of the next byte.
@@ -143,7 +142,7 @@ impl Reader {
         requires reads { (log : List ℕ) → IsLog (S.logs s.old) self.old.node log → Reads self.old log }
         requires some { self.old.place < self.old.end }
         ensures from { OnOk result (self.new.from ≡ self.old.place) }
-        ensures enough { OnOk result ((n : ℕ) → n ≤ 64 → self.old.place + n ≤ self.old.end → n ≤ length self.new.piece) }
+        ensures enough { OnOk result ((n : ℕ) → n ≤ 36 → self.old.place + n ≤ self.old.end → n ≤ length self.new.piece) }
         ensures reads { OnOk result ((log : List ℕ) → IsLog (S.logs s.old) self.old.node log → Reads self.new log) }
         ensures place { self.new.place ≡ self.old.place }
         ensures limit { self.new.limit ≡ self.old.limit }
@@ -159,12 +158,13 @@ impl Reader {
         s.read_log(by, self.node, self.place, &mut self.piece[..count])?;
         self.from = self.place;
         self.count = count;
+        self.is_far = false;
         Ok(())
     }
 
     /// The next bytes, which are at hand.
     fn taken<const N: usize>(&mut self) -> [u8; N]
-        requires small { N ≤ 64 }
+        requires small { N ≤ 36 }
         requires from { self.old.from ≤ self.old.place }
         requires there { self.old.place + N ≤ self.old.from + length self.old.piece }
         requires within { self.old.place + N ≤ self.old.limit }

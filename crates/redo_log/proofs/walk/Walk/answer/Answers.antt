@@ -7,26 +7,26 @@ use Rattle.redo_log.proofs.walk.Walk.answer.Goals as goal
 pub returns-in-Ok-clause-value : goal.returns-in-Ok-clause-value
 returns-in-Ok-clause-value g c = λ log told.
     let now : told_at (g.S.Storage.logs c.args.s.now) c.self.inside.reader.node ≡ Some log = rw (ap (λ v. v.reading.node) c.self.view_is) told in
-    let kept = c.whole_then-self-inside.ensures ∙ ap (λ l. pick (c.self.inside.pending - 1 == 0) l c.self.inside.whole) c.limit.ensures.value in
-    (answered_at _ _ _ log c.in-Ok.head c.place-place.result c.self.view_is (c.requires.stands log told) c.self.invariant.2 c.requires.pending c.place-place.ensures.value c.place-place.ensures.within.0 (c.in-Ok.ensures.reads log now) c.in-Ok.ensures.limit c.limit.ensures.within.0 (c.in-Ok.ensures.entry log now) kept refl).value
+    let kept = c.whole_then-self-inside.ensures ∙ ap (λ l. pick (c.self.inside.pending - 1 == 0) l c.self.inside.whole) c.place-end.ensures.value in
+    (answered_at _ _ _ log c.in-Ok.head c.place-place.result c.self.view_is (c.requires.stands log told) c.self.invariant.2 c.requires.pending c.place-place.ensures.value c.place-place.ensures.within.0 (c.in-Ok.ensures.reads log now) c.in-Ok.ensures.limit c.place-end.ensures.within.0 (c.in-Ok.ensures.entry log now) kept refl).value
 
 pub returns-in-Ok-clause-rest : goal.returns-in-Ok-clause-rest
 returns-in-Ok-clause-rest g c = λ log told.
     let now : told_at (g.S.Storage.logs c.args.s.now) c.self.inside.reader.node ≡ Some log = rw (ap (λ v. v.reading.node) c.self.view_is) told in
-    let kept = c.whole_then-self-inside.ensures ∙ ap (λ l. pick (c.self.inside.pending - 1 == 0) l c.self.inside.whole) c.limit.ensures.value in
-    (answered_at _ _ _ log c.in-Ok.head c.place-place.result c.self.view_is (c.requires.stands log told) c.self.invariant.2 c.requires.pending c.place-place.ensures.value c.place-place.ensures.within.0 (c.in-Ok.ensures.reads log now) c.in-Ok.ensures.limit c.limit.ensures.within.0 (c.in-Ok.ensures.entry log now) kept refl).rest
+    let kept = c.whole_then-self-inside.ensures ∙ ap (λ l. pick (c.self.inside.pending - 1 == 0) l c.self.inside.whole) c.place-end.ensures.value in
+    (answered_at _ _ _ log c.in-Ok.head c.place-place.result c.self.view_is (c.requires.stands log told) c.self.invariant.2 c.requires.pending c.place-place.ensures.value c.place-place.ensures.within.0 (c.in-Ok.ensures.reads log now) c.in-Ok.ensures.limit c.place-end.ensures.within.0 (c.in-Ok.ensures.entry log now) kept refl).rest
 
 pub returns-in-Ok-clause-whole : goal.returns-in-Ok-clause-whole
 returns-in-Ok-clause-whole g c = λ log told.
     let now : told_at (g.S.Storage.logs c.args.s.now) c.self.inside.reader.node ≡ Some log = rw (ap (λ v. v.reading.node) c.self.view_is) told in
-    let kept = c.whole_then-self-inside.ensures ∙ ap (λ l. pick (c.self.inside.pending - 1 == 0) l c.self.inside.whole) c.limit.ensures.value in
-    (answered_at _ _ _ log c.in-Ok.head c.place-place.result c.self.view_is (c.requires.stands log told) c.self.invariant.2 c.requires.pending c.place-place.ensures.value c.place-place.ensures.within.0 (c.in-Ok.ensures.reads log now) c.in-Ok.ensures.limit c.limit.ensures.within.0 (c.in-Ok.ensures.entry log now) kept refl).whole
+    let kept = c.whole_then-self-inside.ensures ∙ ap (λ l. pick (c.self.inside.pending - 1 == 0) l c.self.inside.whole) c.place-end.ensures.value in
+    (answered_at _ _ _ log c.in-Ok.head c.place-place.result c.self.view_is (c.requires.stands log told) c.self.invariant.2 c.requires.pending c.place-place.ensures.value c.place-place.ensures.within.0 (c.in-Ok.ensures.reads log now) c.in-Ok.ensures.limit c.place-end.ensures.within.0 (c.in-Ok.ensures.entry log now) kept refl).whole
 
 pub returns-in-Ok-clause-stands : goal.returns-in-Ok-clause-stands
 returns-in-Ok-clause-stands g c = λ log told.
     let now : told_at (g.S.Storage.logs c.args.s.now) c.self.inside.reader.node ≡ Some log = rw (ap (λ v. v.reading.node) c.self.view_is) told in
-    let kept = c.whole_then-self-inside.ensures ∙ ap (λ l. pick (c.self.inside.pending - 1 == 0) l c.self.inside.whole) c.limit.ensures.value in
-    (answered_at _ _ _ log c.in-Ok.head c.place-place.result c.self.view_is (c.requires.stands log told) c.self.invariant.2 c.requires.pending c.place-place.ensures.value c.place-place.ensures.within.0 (c.in-Ok.ensures.reads log now) c.in-Ok.ensures.limit c.limit.ensures.within.0 (c.in-Ok.ensures.entry log now) kept refl).stands
+    let kept = c.whole_then-self-inside.ensures ∙ ap (λ l. pick (c.self.inside.pending - 1 == 0) l c.self.inside.whole) c.place-end.ensures.value in
+    (answered_at _ _ _ log c.in-Ok.head c.place-place.result c.self.view_is (c.requires.stands log told) c.self.invariant.2 c.requires.pending c.place-place.ensures.value c.place-place.ensures.within.0 (c.in-Ok.ensures.reads log now) c.in-Ok.ensures.limit c.place-end.ensures.within.0 (c.in-Ok.ensures.entry log now) kept refl).stands
 
 pub returns-in-Err-Stopped-clause-value : goal.returns-in-Err-Stopped-clause-value
 returns-in-Err-Stopped-clause-value g c = λ log told.
