@@ -1,7 +1,6 @@
 -- What the index knows after a note.
 use Rattle.std.proofs.Common.{◌≡◌, refl, sym, ap, subst, ◌∙◌, ℕ, ◌<◌, ◌^◌, Bool, true, false, ◌==◌, ◌&&◌, List, [], ◌∷◌, ◌++◌, ◌+◌, arith, Option, Some, None, cond}
 use Rattle.std.specs.Option.{is_some}
-use Rattle.std.specs.Map.{lookup}
 use Rattle.std.proofs.lemmas.Bool.Decides.{nat_tests}
 use Rattle.run_rules.specs.Words.{pick}
 use Rattle.partition_redo.specs.declared.site.Site.{Site}
@@ -10,7 +9,7 @@ use Rattle.pcl_base.specs.declared.log.Seen.{Seen}
 use Rattle.redo_log.specs.Placed.{Placed, seen_of}
 use Rattle.redo_log.specs.Walks.{first_seen, after_first}
 use Rattle.partition_redo.specs.Chains.{AreNext}
-use Rattle.partition_redo.specs.Index.{Known, same_pair, or_else, next_known, known_all}
+use Rattle.partition_redo.specs.Index.{Known, or_else, noted_at, next_known, known_all}
 
 -- what isn't there
 not_some : {X : Type 0} (o : Option X) → is_some o ≡ false → o ≡ None
@@ -21,25 +20,28 @@ and_parts : (a b : Bool) → (a && b) ≡ true → (a ≡ true) × (b ≡ true)
 and_parts true b e = (refl, e)
 and_parts false b e = absurd (cc)
 
-absent : (es : List ((ℕ × ℕ) × Site)) (page version p v : ℕ) → is_some (lookup (same_pair (page, version)) es) ≡ false → (page == p && version == v) ≡ true
-    → lookup (same_pair (p, v)) es ≡ None
-absent es page version p v none is =
+-- of the page and the version themselves
+same_entry : (f : ℕ → ℕ → Option Site) (page version p v : ℕ) → f page version ≡ None → (page == p && version == v) ≡ true → f p v ≡ None
+same_entry f page version p v none is =
     let parts = and_parts (page == p) (version == v) is in
     let one = parts.0 in
     let two = parts.1 in
     let first : page ≡ p = grind (arith, nat_tests) in
     let second : version ≡ v = grind (arith, nat_tests) in
-    sym (ap (λ (q : ℕ). lookup (same_pair (q, version)) es) first ∙ ap (λ (w : ℕ). lookup (same_pair (p, w)) es) second) ∙ not_some _ none
+    sym (ap (λ (q : ℕ). f q version) first ∙ ap (λ (w : ℕ). f p w) second) ∙ none
 
-chosen : (b : Bool) (o : Option Site) (s : Site) → (b ≡ true → o ≡ None) → cond b (Some s) o ≡ or_else o (pick b (Some s) None)
-chosen true None s none = refl
-chosen true (Some x) s none = let bad = none refl in absurd (cc)
-chosen false None s none = refl
-chosen false (Some x) s none = refl
+chosen : (b : Bool) (o n : Option Site) (s : Site) → (b ≡ true → o ≡ None) → (b ≡ true → n ≡ None) → or_else (cond b (Some s) o) n ≡ or_else (or_else o n) (pick b (Some s) None)
+chosen true None None s far near = refl
+chosen true None (Some x) s far near = let bad = near refl in absurd (cc)
+chosen true (Some x) n s far near = let bad = far refl in absurd (cc)
+chosen false None None s far near = refl
+chosen false None (Some x) s far near = refl
+chosen false (Some x) n s far near = refl
 
-pub noted : (es : List ((ℕ × ℕ) × Site)) (page version p v : ℕ) (s : Site) → is_some (lookup (same_pair (page, version)) es) ≡ false
-    → cond (page == p && version == v) (Some s) (lookup (same_pair (p, v)) es) ≡ or_else (lookup (same_pair (p, v)) es) (pick (page == p && version == v) (Some s) None)
-noted es page version p v s none = chosen (page == p && version == v) (lookup (same_pair (p, v)) es) s (absent es page version p v none)
+pub noted_far : (far near : ℕ → ℕ → Option Site) (page version p v : ℕ) (s : Site) → is_some (far page version) ≡ false → near page version ≡ None
+    → or_else (cond (page == p && version == v) (Some s) (far p v)) (near p v) ≡ or_else (or_else (far p v) (near p v)) (noted_at page version s p v)
+noted_far far near page version p v s none none_near =
+    chosen (page == p && version == v) (far p v) (near p v) s (same_entry far page version p v (not_some _ none)) (same_entry near page version p v none_near)
 
 -- one more answer
 pub known_step : (p v n : ℕ) (xs ys : List Placed) (seen : Seen) (k w : Known) → Some seen ≡ first_seen xs → ys ≡ after_first xs → w ≡ next_known p v n seen k → known_all p v n ys w ≡ known_all p v n xs k

@@ -1,6 +1,6 @@
 -- What an index of listed pages knows, page by page and version by version. From next_base to
 -- known_logs these serve only contracts of functions inside this crate.
-use Rattle.std.specs.Prelude.{ℕ, ◌==◌, ◌&&◌, not, nat_lt, nat_eq, Bool, List, Option, Some, None}
+use Rattle.std.specs.Prelude.{ℕ, ◌+◌, ◌-◌, ◌==◌, ◌&&◌, not, nat_lt, nat_eq, Bool, List, slice_index_or, Option, Some, None}
 use Rattle.std.specs.List.{fold}
 use Rattle.std.specs.Map.{lookup}
 use Rattle.pcl_base.specs.Limits.{Sizes}
@@ -11,10 +11,20 @@ use Rattle.run_rules.specs.Words.{pick}
 use Rattle.run_rules.specs.Disk.{Disk, log_at}
 use Rattle.redo_log.specs.Placed.{Placed, seen_of, placed_of}
 
+-- the first changed ranges of versions of a page, with a place for each version behind one
+pub record NearView : Type 0 where
+  pub from : ℕ
+  pub slots : List (Option Site)
+
+-- for page and version the first changed ranges: of each page a list, and those that are far
+pub record NotedView : Type 0 where
+  pub near : List (ℕ × NearView)
+  pub far : List ((ℕ × ℕ) × Site)
+
 -- the newest whole page of each listed page, and for page and version the first changed ranges
 pub record IndexView : Type 0 where
   pub bases : List (ℕ × Base)
-  pub ranges : List ((ℕ × ℕ) × Site)
+  pub ranges : NotedView
 
 -- whether two pairs are of one page and version
 abbrev pub same_pair : ℕ × ℕ → ℕ × ℕ → Bool
@@ -24,10 +34,6 @@ same_pair x y = x.0 == y.0 && x.1 == y.1
 abbrev pub base_of : IndexView → ℕ → Option Base
 base_of i p = lookup (nat_eq p) i.bases
 
--- the changed ranges of page p at version v
-abbrev pub ranges_of : IndexView → ℕ → ℕ → Option Site
-ranges_of i p v = lookup (same_pair (p, v)) i.ranges
-
 -- where an answer of the walk over the log of node n stands
 abbrev pub site_of : ℕ → Seen → Site
 site_of n x = record { node = n; place = x.place; whole = x.whole }
@@ -36,6 +42,23 @@ site_of n x = record { node = n; place = x.place; whole = x.whole }
 abbrev pub or_else : {X : Type 0} → Option X → Option X → Option X
 or_else None y = y
 or_else (Some x) y = Some x
+
+-- the changed ranges at version v in the list of a page
+abbrev pub near_at : NearView → ℕ → Option Site
+near_at n v = pick (nat_lt n.from v) (slice_index_or n.slots (v - (n.from + 1)) None) None
+
+-- and where the page has a list
+abbrev pub near_in : Option NearView → ℕ → Option Site
+near_in None v = None
+near_in (Some n) v = near_at n v
+
+-- the changed ranges of page p at version v
+abbrev pub noted_in : NotedView → ℕ → ℕ → Option Site
+noted_in n p v = or_else (lookup (same_pair (p, v)) n.far) (near_in (lookup (nat_eq p) n.near) v)
+
+-- and where an index has them
+abbrev pub ranges_of : IndexView → ℕ → ℕ → Option Site
+ranges_of i p v = noted_in i.ranges p v
 
 -- the newest whole page after one more answer
 abbrev pub next_base : ℕ → ℕ → Seen → Option Base → Option Base

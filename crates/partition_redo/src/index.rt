@@ -4,8 +4,9 @@ ghost use Rattle.run_rules.specs.Disk.{Disk, log_at};
 ghost use Rattle.page_store.specs.declared.fault.RedoFault.TheVariants.{NoMemory as no_memory};
 ghost use Rattle.partition_redo.specs.declared.site.Base.{Base as Based};
 ghost use Rattle.partition_redo.specs.Chains.{Follows, image_sites};
-ghost use Rattle.partition_redo.specs.Index.{base_of, ranges_of, next_base, next_ranges, site_of, or_else, noted_at};
+ghost use Rattle.partition_redo.specs.Index.{base_of, ranges_of, next_base, next_ranges, site_of};
 
+use crate::ranges::Noted;
 use crate::site::{Base, Chain, Site};
 use indexmap::IndexMap;
 use page_store::RedoFault;
@@ -18,7 +19,7 @@ use std::marker::Model;
 #[derive(Drop)]
 pub(crate) struct Index {
     bases: IndexMap<PageNo, Base>,
-    ranges: IndexMap<(PageNo, Version), Site>,
+    noted: Noted,
 }
 
 impl Model for Index {
@@ -28,7 +29,7 @@ impl Model for Index {
 
     ghost Value = { IndexView };
 
-    ghost view = { λ i. record { bases = i.bases.entries; ranges = i.ranges.entries } };
+    ghost view = { λ i. record { bases = i.bases.entries; ranges = i.noted } };
 }
 
 impl Index {
@@ -39,7 +40,7 @@ impl Index {
     {
         Index {
             bases: IndexMap::new(alloc),
-            ranges: IndexMap::new(alloc),
+            noted: Noted::new(alloc),
         }
     }
 
@@ -66,25 +67,13 @@ impl Index {
                     };
                     return Ok(());
                 }
-                match self.note(seen.page, seen.version, site) {
+                match self.noted.note(seen.page, base.version, seen.version, site) {
                     Ok(()) => Ok(()),
                     Err(NoMemory) => Err(RedoFault::NoMemory),
                 }
             }
             _ => Ok(()),
         }
-    }
-
-    /// Notes changed ranges of a page, unless others of that version were noted before.
-    fn note(&mut self, page: PageNo, version: Version, site: Site) -> Result<(), NoMemory>
-        ensures bases { self.new.bases ≡ self.old.bases }
-        ensures ranges { OnOk result ((p v : ℕ) → ranges_of self.new p v ≡ or_else (ranges_of self.old p v) (noted_at page version site p v)) }
-    {
-        if self.ranges.contains_key(&(page, version)) {
-            return Ok(());
-        }
-        self.ranges.insert((page, version), site)?;
-        Ok(())
     }
 
     /// Lists a page with the version of its stored page.
@@ -130,8 +119,8 @@ impl Index {
     {
         let mut sites = sites;
         for version in from..u64::MAX {
-            match self.ranges.get(&(page, version + 1)) {
-                Some(site) => sites.push(*site)?,
+            match self.noted.at(page, version + 1) {
+                Some(site) => sites.push(site)?,
                 None => {
                     return Ok(Chain {
                         page,

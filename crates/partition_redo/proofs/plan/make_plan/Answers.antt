@@ -1,4 +1,4 @@
-use Rattle.std.proofs.Common.{ℕ, ◌<◌}
+use Rattle.std.proofs.Common.{◌<◌}
 use Rattle.partition_redo.proofs.Leading.{by_recursion}
 use Rattle.partition_redo.proofs.Standing.{given_pages, pages_below}
 use Rattle.partition_redo.proofs.plan.make_plan.Goals as goal

@@ -1,7 +1,6 @@
 use Rattle.std.proofs.Common.{◌≡◌, ℕ, ◌<◌, ap, sym, subst, ◌∙◌, map, length, slice_index, List, Some, arith}
-use Rattle.std.specs.Map.{lookup}
 use Rattle.run_rules.specs.Views.{count_from}
-use Rattle.partition_redo.specs.Index.{IndexView, base_of, ranges_of, same_pair, known}
+use Rattle.partition_redo.specs.Index.{IndexView, NotedView, base_of, ranges_of, noted_in, known}
 use Rattle.partition_redo.specs.Chains.{AreAll, AreChains, IsGiven, IsListed, IsRedone, IsStoredOne}
 use Rattle.partition_redo.proofs.Leading.{by_recursion}
 use Rattle.partition_redo.proofs.Standing.{AreSites, first_sites, log_sites, given_stand, given_pages, pages_below}
@@ -16,7 +15,7 @@ returns-in-Ok-clause-chains g c = λ d pages logs.
     let full : IsFull c.args.config.now d i j =
     record {
       known_is = λ p v. c.in_ok-index_logs.ensures.known d p v told;
-      none_yet = λ p v. ap (λ r. lookup (same_pair (p, v)) r) c.in_ok-list_pages.ensures.ranges ∙ c.new-index.ensures.ranges p v;
+      none_yet = λ p v. ap (λ (r : NotedView). noted_in r p v) c.in_ok-list_pages.ensures.ranges ∙ c.new-index.ensures.ranges p v;
       versions = λ n less. c.in_ok-index_logs.ensures.versions d n told less;
     } in
     let first : c.as_slice.result.now ≡ c.args.pages.now.items = c.as_slice.ensures.value in
@@ -47,7 +46,7 @@ returns-in-Ok-clause-stand g c = λ d logs.
     let below = count_all (λ n. n < c.args.config.now.nodes) 0 c.args.config.now.nodes (λ n less. let r : n < c.args.config.now.nodes = omega arith in r) in
     let known_first = λ (p v : ℕ).
     let plain : IsStoredOne (base_of i p) = c.in_ok-list_pages.ensures.plain p (subst IsStoredOne (sym (c.new-index.ensures.bases p)) tt) in
-    first_sites c.args.config.now d (base_of i p) (ranges_of i p v) plain (ap (λ r. lookup (same_pair (p, v)) r) c.in_ok-list_pages.ensures.ranges ∙ c.new-index.ensures.ranges p v) in
+    first_sites c.args.config.now d (base_of i p) (ranges_of i p v) plain (ap (λ (r : NotedView). noted_in r p v) c.in_ok-list_pages.ensures.ranges ∙ c.new-index.ensures.ranges p v) in
     let known_last = λ (p v : ℕ).
     subst (AreSites c.args.config.now d) (sym (c.in_ok-index_logs.ensures.known d p v told)) (log_sites c.args.config.now d p v nodes (known i p v) below (known_first p v)) in
     given_stand c.args.config.now d j c.as_slice-2.result.now c.in-Ok.plan.chains known_last c.in-Ok.ensures.given
