@@ -129,9 +129,11 @@ fn plans(
     Ok(count)
 }
 
-/// A log of records of one page each.
+/// A log of records of one page each, made in memory that is taken once.
 fn log_of(alloc: Global, mark: u8, part: &[u8], records: u32) -> Result<Vec<u8>, NoMemory> {
     let mut log = Vec::new(alloc);
+    let record = part.len().saturating_add(HEAD as usize);
+    log.reserve(record.saturating_mul(records as usize))?;
     for record in 0..records {
         let version = record as u64 / PAGES as u64 + 1;
         put_record(&mut log, mark, record % PAGES, version, part)?;
