@@ -1,0 +1,17 @@
+pub mod Sums
+pub mod Settles
+pub mod Tables
+pub mod Outcomes
+pub mod Homes
+pub mod Works
+pub mod Pages
+pub mod Partitions
+pub mod Gathers
+pub mod Serving
+pub mod Installs
+pub mod Gifts
+pub mod Ends
+pub mod Messages
+pub mod Steps
+pub mod Readers
+pub mod Reached
