@@ -1,0 +1,11 @@
+pub mod Words
+pub mod Outcomes
+pub mod Reports
+pub mod Grants
+pub mod Settling
+pub mod Redoing
+pub mod Planned
+pub mod Parts
+pub mod Worked
+pub mod Apart
+pub mod Alone

@@ -1,0 +1,2 @@
+pub mod InstallPlans
+pub mod Laws
