@@ -1,8 +1,6 @@
 -- The calls of the frames of an access: each stage adds those of its own, which go by the buffer alone.
-use Rattle.std.proofs.Common.{◌≡◌, ℕ, zero, suc, ◌+◌, ◌≤◌, ◌++◌, nat_lt, Bool, true, false, List, [], ◌∷◌, length, take, Option, Some, None, is_some, refl, ap, sym, ◌∙◌, arith, append-nil}
-use Rattle.std.specs.List.{fold}
+use Rattle.std.proofs.Common.{◌≡◌, ℕ, ◌++◌, nat_lt, Bool, true, false, List, [], ◌∷◌, Option, Some, None, is_some, refl, ap, sym, ◌∙◌, append-nil}
 use Rattle.pcl_base.specs.declared.tx.TxId.{TxId}
-use Rattle.disk_model.specs.Disk.{Pages}
 use Rattle.node_rules.specs.Words.{pick}
 use Rattle.node_rules.specs.OpenTxs.{held_by}
 use Rattle.node_rules.specs.BufferRule.{Pool, Slot, Copy, copy_at, has_slot, has_private, free_frames, victim, place, private, pin, clean}
@@ -12,7 +10,7 @@ use Rattle.node_rules.specs.Work.{HomeWork, with_pool, write_page, write_copy, w
 use Rattle.node_rules.specs.AccessRule.{Access, make_room, let_go, take_slot, take_private, pin_once, take_frames, on_pool}
 use Rattle.node_rules.specs.NodeState.{HomeState}
 use Rattle.home_laws.proofs.Frames.{slot_taken, slot_home, private_home, pin_home}
-use Rattle.home.specs.Device.{work_on, page_done, pages_done, Made}
+use Rattle.home.specs.Device.{work_on}
 
 -- the calls of writing a copy back, and of making room
 abbrev copy_calls : ℕ → Option Copy → List DiskCall
@@ -90,44 +88,6 @@ frames_have a w =
     pin_has a.tx a.page (take_private a.tx a.page a.write (take_slot a.page w))
     ∙ private_has a.tx a.page a.write (take_slot a.page w)
     ∙ ap (λ l. (take_slot a.page w).calls ++ l) (sym (private_has a.tx a.page a.write (work_on (take_slot a.page w).home)))
-
--- calls after calls
-pub fold_done : (xs ys : List DiskCall) (l : List (List ℕ)) → fold page_done l (xs ++ ys) ≡ fold page_done (fold page_done l xs) ys
-fold_done [] ys l = refl
-fold_done (x ∷ xs) ys l = fold_done xs ys (page_done l x)
-
-pub done_then : (xs ys : List DiskCall) (old : Pages) → pages_done (pages_done old xs) ys ≡ pages_done old (xs ++ ys)
-done_then xs ys None = refl
-done_then xs ys (Some l) = ap Some (sym (fold_done xs ys l))
-
-take_first : (n : ℕ) (xs ys : List DiskCall) → n ≤ length xs → take n (xs ++ ys) ≡ take n xs
-take_first zero xs ys le = refl
-take_first (suc n) [] ys le = absurd (omega (arith, le))
-take_first (suc n) (x ∷ xs) ys le = ap (λ l. x ∷ l) (take_first n xs ys (omega (arith, le)))
-
-take_later : (n : ℕ) (xs ys : List DiskCall) → take (length xs + n) (xs ++ ys) ≡ xs ++ take n ys
-take_later n [] ys = ap (λ k. take k ys) (omega arith)
-take_later n (x ∷ xs) ys =
-    let on : suc (length xs) + n ≡ suc (length xs + n) = omega arith in
-    ap (λ k. take k (x ∷ (xs ++ ys))) on ∙ ap (λ l. x ∷ l) (take_later n xs ys)
-
-long : (xs ys : List DiskCall) → length (xs ++ ys) ≡ length xs + length ys
-long [] ys = omega arith
-long (x ∷ xs) ys = let rest = long xs ys in omega (arith, rest)
-
-pub made_then : (going done : Bool) (xs ys : List DiskCall) (old mid new : Pages) → Made true going xs old mid → Made going done ys mid new → Made true done (xs ++ ys) old new
-made_then true true xs ys old mid new first second = second ∙ ap (λ o. pages_done o ys) first ∙ done_then xs ys old
-made_then true false xs ys old mid new first second = record {
-  count = length xs + second.count;
-  most = (let most = second.most in let len = long xs ys in omega (arith, most, len));
-  same = second.same ∙ ap (λ o. pages_done o (take second.count ys)) first ∙ done_then xs (take second.count ys) old ∙ ap (pages_done old) (sym (take_later second.count xs ys));
-}
-made_then false true xs ys old mid new first second = absurd second
-made_then false false xs ys old mid new first second = record {
-  count = first.count;
-  most = (let most = first.most in let len = long xs ys in omega (arith, most, len));
-  same = second ∙ first.same ∙ ap (pages_done old) (sym (take_first first.count xs ys first.most));
-}
 
 -- the calls of an access go by the buffer alone
 pub frames_same : (a : Access) (h g : HomeState) → h.pool ≡ g.pool → (take_frames a (work_on h)).calls ≡ (take_frames a (work_on g)).calls

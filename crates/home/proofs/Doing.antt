@@ -19,17 +19,16 @@ use Rattle.home_laws.proofs.Frames.{frames_home}
 use Rattle.pcl_base.specs.declared.reply.Reply.{Reply}
 use Rattle.pcl_base.specs.declared.fault.NoMemory.{NoMemory as Wanting}
 use Rattle.pcl_base.specs.declared.trace.Call.{Call}
-use Rattle.disk_model.specs.Disk.{Pages}
+use Rattle.pcl_base.specs.declared.trace.Call.TheVariants as call
 use Rattle.node_rules.specs.DiskCalls.{DiskCall}
 use Rattle.node_rules.specs.Work.{with_pool}
 use Rattle.home_laws.proofs.Tests.{and_right}
 use Rattle.home.specs.declared.fault.HomeFault.{HomeFault}
 use Rattle.home.specs.declared.fault.HomeFault.TheVariants.{Refused, Failed, Differs, NoMemory}
 use Rattle.home.specs.declared.access.Next.{Next}
-use Rattle.home.specs.Answers.{refused_as, home_after, Leaves}
+use Rattle.home.specs.Answers.{refused_as, home_after, Leaves, answer_if}
 use Rattle.home.specs.Asked.{next_as, done_as}
-use Rattle.home.proofs.WriteBack.{nothing_made}
-use Rattle.home.specs.Device.{work_on, Made, MayHave, pages_done}
+use Rattle.home.specs.Device.{work_on, Told, Made, MadeIf}
 use Rattle.home.specs.Parts.{PartsView, HasMemory, IsPrepared, KeepsMemory, MayTakeFrames}
 
 pub if_ok : {T E : Type 0} {P Q : T → Type 0} (r : Result T E) → IfOk r P → ((x : T) → P x → Q x) → IfOk r Q
@@ -149,15 +148,6 @@ right_prepared a old mid added new h home may prepared same keeps memory places 
       node ∙ keeps.node ∙ prepared.1 ∙ sym (ap (λ s. s.node) txs),
     )
 
--- all of the writes are done, or one of them failed
-pub made_failed : (d : Bool) (cs ds : List DiskCall) (old new : Pages) → cs ≡ ds → Made true d ds old new → d ≡ false → MayHave old cs new
-made_failed true cs ds old new same made e = absurd (cc)
-made_failed false cs ds old new same made e = subst (λ l. MayHave old l new) (sym same) made
-
-pub made_done : (d : Bool) (cs ds : List DiskCall) (old new : Pages) → cs ≡ ds → Made true d ds old new → d ≡ true → new ≡ pages_done old cs
-made_done true cs ds old new same made e = made ∙ ap (pages_done old) (sym same)
-made_done false cs ds old new same made e = absurd (cc)
-
 -- a slot has few pins
 pub few_pins : (h : HomeState) (p : ℕ) → IsHome h → IfSome (slot_at h.pool p) (λ s. s.pins < 4294967295)
 few_pins h p home = few (slot_at h.pool p) (pins_few h p home)
@@ -199,10 +189,6 @@ pub done_home : (r : Result Reply Wanting) (old new h : HomeState) → OnOk r (n
 done_home (Ok x) old new h done failed = done
 done_home (Err e) old new h done failed = failed
 
-pub done_pages : (r : Result Reply Wanting) (calls : List DiskCall) (old new : Pages) → calls ≡ [] → new ≡ old → Leaves (done_as r) calls old new
-done_pages (Ok x) calls old new none same = same ∙ nothing_made old ∙ ap (pages_done old) (sym none)
-done_pages (Err e) calls old new none same = same
-
 pub done_cause : (r : Result Reply Wanting) (k : Call) (kept : Bool) → done_as r ≡ Err (Failed k kept) → ⊥
 done_cause (Ok x) k kept e = cc
 done_cause (Err f) k kept e = cc
@@ -224,5 +210,26 @@ after_home {T} r old new h same was is = subst IsHome (sym same) (of r)
     of (Err (Differs p expected found)) = is
     of (Err NoMemory) = was
 
-pub done_leaves : (r : Result Reply Wanting) (x : Result Next HomeFault) (calls : List DiskCall) (old : Pages) → x ≡ done_as r → calls ≡ [] → Leaves x calls old old
-done_leaves r x calls old same none = subst (λ y. Leaves y calls old old) (sym same) (done_pages r calls old old none refl)
+-- what became of the calls by an answer
+pub done_leaves : (n : ℕ) (r : Result Reply Wanting) (x : Result Next HomeFault) (calls : List DiskCall) (old : Told) → x ≡ done_as r → calls ≡ [] → Leaves n x calls old old
+done_leaves n r x calls old same none = subst (λ y. Leaves n y calls old old) (sym same) (subst (λ l. Leaves n (done_as r) l old old) (sym none) (of r))
+  where
+    of : (y : Result Reply Wanting) → Leaves n (done_as y) [] old old
+    of (Ok reply) = refl
+    of (Err e) = refl
+
+pub failed_made : (n : ℕ) (d : Bool) (calls : List DiskCall) (old new : Told) → d ≡ false → MadeIf n true d calls old new → Made n calls old (Some call.Write) new
+failed_made n true calls old new e made = absurd (cc)
+failed_made n false calls old new e made = made
+
+pub done_made : (n : ℕ) (d : Bool) (calls : List DiskCall) (old new : Told) → d ≡ true → MadeIf n true d calls old new → Made n calls old None new
+done_made n true calls old new e made = made
+done_made n false calls old new e made = absurd (cc)
+
+-- the same of a node of another name, and of the same calls by another name
+pub leaves_as : {T : Type 0} (n m : ℕ) (x : Result T HomeFault) (cs ds : List DiskCall) (old new : Told) → n ≡ m → cs ≡ ds → Leaves m x ds old new → Leaves n x cs old new
+leaves_as n m x cs ds old new node same made = subst (λ l. Leaves n x l old new) (sym same) (subst (λ k. Leaves k x ds old new) (sym node) made)
+
+pub ended_leaves : {T : Type 0} (n : ℕ) (d : Bool) (y : T) (x : Result T HomeFault) (calls : List DiskCall) (old new : Told) → x ≡ answer_if d y → MadeIf n true d calls old new → Leaves n x calls old new
+ended_leaves n true y x calls old new same made = subst (λ z. Leaves n z calls old new) (sym same) made
+ended_leaves n false y x calls old new same made = subst (λ z. Leaves n z calls old new) (sym same) (refl, made)

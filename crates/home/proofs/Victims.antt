@@ -1,5 +1,5 @@
 -- The victim of a page, and the buffer once it was written back.
-use Rattle.std.proofs.Common.{◌≡◌, ℕ, ◌+◌, ◌<◌, ◌≤◌, ◌==◌, ◌||◌, not, nat_lt, Bool, true, false, List, Option, Some, None, is_some, refl, ap, sym, subst, ◌∙◌, arith}
+use Rattle.std.proofs.Common.{◌≡◌, ℕ, ◌+◌, ◌<◌, ◌≤◌, ◌==◌, ◌||◌, not, nat_lt, Bool, true, false, Option, Some, None, is_some, refl, ap, sym, subst, ◌∙◌, arith}
 use Rattle.std.proofs.lemmas.Bool.Decides.{nat_tests}
 use Rattle.std.specs.Prelude.{option_map}
 use Rattle.pcl_base.specs.Limits.{Sizes}
@@ -7,13 +7,10 @@ use Rattle.node_rules.specs.Words.{pick}
 use Rattle.node_rules.specs.BufferRule.{Pool, Slot, Copy, slot_at, slot_in, copy_at, copy_of_slot, dirty, is_dirty_copy, pinned, pinned_slot, is_pinned, is_kept, may_go, can_go, free_frames, victim, clean, cleaned, evict}
 use Rattle.node_rules.specs.NodeState.{HomeState}
 use Rattle.node_rules.specs.Work.{HomeWork, write_back}
-use Rattle.node_rules.specs.DiskCalls.{DiskCall}
 use Rattle.node_rules.specs.AccessRule.{make_room, let_go, on_pool}
 use Rattle.buffer_pool.specs.Buffer.{IsBuffer}
-use Rattle.disk_model.specs.Disk.{Pages}
 use Rattle.home_laws.proofs.Tests.{and_left, and_right, not_true}
 use Rattle.home_laws.proofs.SlotLooks.{changed_here, goes_may, goes_there, goes_some, all_found}
-use Rattle.home.specs.Device.{Made}
 use Rattle.home.specs.Parts.{PartsView, GoWell}
 use Rattle.home.proofs.WriteBack.{written_home, unwritten}
 
@@ -125,10 +122,6 @@ written_back p w = by_case (dirty w.home.pool p) refl
           clean = ap (λ o. is_dirty_copy (copy_of_slot o)) (cleaned_slot w.home.pool p) ∙ none_dirty (slot_at w.home.pool p);
         })
     by_case false e = subst (λ x. IsWrittenBack p w.home.pool x.home.pool) (sym (unwritten p w e)) (record { copy = refl; pinned = refl; clean = e })
-
--- the same calls by another name
-pub made_as : (going done : Bool) (cs ds : List DiskCall) (old new : Pages) → cs ≡ ds → Made going done ds old new → Made going done cs old new
-made_as going done cs ds old new same made = subst (λ l. Made going done l old new) (sym same) made
 
 -- the parts with another home
 pub with_home_as : (v : PartsView) (h g : HomeState) → h ≡ g → record v { home = h } ≡ record v { home = g }

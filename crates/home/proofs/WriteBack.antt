@@ -1,5 +1,5 @@
 -- What writing a copy back leaves, and its calls.
-use Rattle.std.proofs.Common.{◌≡◌, ℕ, ◌+◌, ◌++◌, Bool, true, false, List, [], ◌∷◌, length, Option, Some, None, refl, ap, sym, subst, ◌∙◌, arith, ◌⊎◌, inl, inr, IfSome, length-set}
+use Rattle.std.proofs.Common.{◌≡◌, ℕ, ◌+◌, ◌++◌, true, false, List, [], ◌∷◌, length, Option, Some, None, refl, ap, sym, subst, ◌∙◌, ◌⊎◌, inl, inr, IfSome, length-set}
 use Rattle.std.specs.List.{All}
 use Rattle.std.proofs.lemmas.List.Elements.{All-set}
 use Rattle.pcl_base.specs.Limits.{Sizes}
@@ -7,9 +7,8 @@ use Rattle.disk_model.specs.Disk.{Pages, Logs, Rooms, with_page, HasSizes}
 use Rattle.text_rules.specs.StoredPage.{stored_bytes}
 use Rattle.node_rules.specs.Words.{pick}
 use Rattle.node_rules.specs.BufferRule.{Pool, Copy, copy_at, dirty, is_dirty_copy, find, version_of_copy, bytes_of_copy, clean}
-use Rattle.node_rules.specs.DiskCalls.{DiskCall, WritePage}
+use Rattle.node_rules.specs.DiskCalls.{WritePage}
 use Rattle.node_rules.specs.Work.{HomeWork, with_pool, write_page, write_copy, write_back}
-use Rattle.home.specs.Device.{pages_done, Made}
 
 -- a dirty copy becomes clean
 pub written_home : (p : ℕ) (w : HomeWork) → dirty w.home.pool p ≡ true → (write_back p w).home ≡ with_pool w.home (clean w.home.pool p)
@@ -42,46 +41,10 @@ written_calls p w v e found = by_case (copy_at w.home.pool p) e found
         ap (λ b. (pick b (record (write_page p (record { version = c.version; bytes = c.bytes }) w) { home = with_pool w.home (clean w.home.pool p) }) w).calls) d
         ∙ ap (λ n. w.calls ++ WritePage p (stored_bytes p (record { version = n; bytes = c.bytes })) ∷ []) same
 
--- one page write, done or not
-pub nothing_made : (old : Pages) → old ≡ pages_done old []
-nothing_made None = refl
-nothing_made (Some l) = refl
-
-pub one_done : (old : Pages) (p : ℕ) (bytes : List ℕ) → with_page old p bytes ≡ pages_done old (WritePage p bytes ∷ [])
-one_done None p bytes = refl
-one_done (Some l) p bytes = refl
-
-pub made_one : (done : Bool) (old new : Pages) (p : ℕ) (bytes : List ℕ) → (done ≡ true → new ≡ with_page old p bytes) → (new ≡ old) ⊎ (new ≡ with_page old p bytes)
-    → Made true done (WritePage p bytes ∷ []) old new
-made_one true old new p bytes all torn = all refl ∙ one_done old p bytes
-made_one false old new p bytes all (inl same) = record { count = 0; most = omega arith; same = same ∙ nothing_made old }
-made_one false old new p bytes all (inr done) = record { count = 1; most = omega arith; same = done ∙ one_done old p bytes }
-
--- no call
-pub made_none : (going : Bool) (old : Pages) → Made going going [] old old
-made_none true old = nothing_made old
-made_none false old = refl
-
--- no call after one that failed
-pub made_not : (calls : List DiskCall) (old : Pages) → Made false false calls old old
-made_not calls old = refl
-
 -- cleaning changes no size
 pub clean_size : (b : Pool) (p : ℕ) → (clean b p).size ≡ b.size
 unfolding clean
 clean_size b p = refl
-
--- a page that is the old one or that with other bytes
-pub told_torn : (old new : Pages) (p : ℕ) (raw bytes : List ℕ) → (new ≡ old) ⊎ (new ≡ with_page old p raw) → raw ≡ bytes → (new ≡ old) ⊎ (new ≡ with_page old p bytes)
-told_torn old new p raw bytes (inl same) e = inl same
-told_torn old new p raw bytes (inr done) e = inr (done ∙ ap (with_page old p) e)
-
--- the write of a copy with these bytes
-pub stored_as : (done : Bool) (old new : Pages) (p v : ℕ) (bytes copy : List ℕ) → (done ≡ true → new ≡ with_page old p (stored_bytes p (record { version = v; bytes = bytes })))
-    → (new ≡ old) ⊎ (new ≡ with_page old p (stored_bytes p (record { version = v; bytes = bytes }))) → bytes ≡ copy
-    → Made true done (WritePage p (stored_bytes p (record { version = v; bytes = copy })) ∷ []) old new
-stored_as done old new p v bytes copy all torn same =
-    subst (λ b. Made true done (WritePage p (stored_bytes p (record { version = v; bytes = b })) ∷ []) old new) same (made_one done old new p (stored_bytes p (record { version = v; bytes = bytes })) all torn)
 
 -- a page that is written or not keeps the sizes of the storage
 pub sizes_torn : (c : Sizes) (old new : Pages) (p : ℕ) (raw : List ℕ) (logs more_logs : Logs) (rooms more_rooms : Rooms) → (new ≡ old) ⊎ (new ≡ with_page old p raw) → length raw ≡ c.size + 16

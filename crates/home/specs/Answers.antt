@@ -1,9 +1,8 @@
--- What the answer of a call tells of the home and of the stored pages.
+-- What the answer of a call tells of the home and of its changing calls.
 use Rattle.std.specs.Prelude.{◌≡◌, ℕ, Bool, true, false, not, nat_le, List, Option, Some, None, is_some, Result, Ok, Err}
 use Rattle.pcl_base.specs.declared.reply.Reason.{Reason}
 use Rattle.pcl_base.specs.declared.reply.Reason.TheVariants as reason
 use Rattle.pcl_base.specs.declared.trace.Call.TheVariants as call
-use Rattle.disk_model.specs.Disk.{Pages}
 use Rattle.node_rules.specs.BufferRule.{find, pinned, evict}
 use Rattle.node_rules.specs.NodeState.{HomeState}
 use Rattle.node_rules.specs.DiskCalls.{DiskCall}
@@ -12,7 +11,7 @@ use Rattle.node_rules.specs.AccessRule.{on_pool}
 use Rattle.node_rules.specs.Refusals.{refuse_if}
 use Rattle.home.specs.declared.fault.HomeFault.{HomeFault}
 use Rattle.home.specs.declared.fault.HomeFault.TheVariants.{Refused, Failed, Differs, NoMemory}
-use Rattle.home.specs.Device.{pages_done, MayHave}
+use Rattle.home.specs.Device.{Told, Made}
 
 -- the first reason against an eviction of a page's copy, and against writing it
 abbrev pub evict_refusal : ℕ → HomeState → Option Reason
@@ -39,14 +38,14 @@ home_after (Err (Refused r)) old new = old
 home_after (Err NoMemory) old new = old
 home_after _ old new = new
 
--- the stored pages after an answer: all of the writes are done, none of them, or those up to one that
--- failed
-abbrev pub Leaves : {T : Type 0} → Result T HomeFault → List DiskCall → Pages → Pages → Type 0
-Leaves (Ok x) calls old new = new ≡ pages_done old calls
-Leaves (Err (Refused r)) calls old new = new ≡ old
-Leaves (Err (Failed k kept)) calls old new = (k ≡ call.Write) × (kept ≡ false) × MayHave old calls new
-Leaves (Err (Differs p expected found)) calls old new = ⊥
-Leaves (Err NoMemory) calls old new = new ≡ old
+-- what became of the changing calls of node n by an answer: all of them are made, none of them, or those
+-- up to one that failed
+abbrev pub Leaves : {T : Type 0} → ℕ → Result T HomeFault → List DiskCall → Told → Told → Type 0
+Leaves n (Ok x) calls old new = Made n calls old None new
+Leaves n (Err (Refused r)) calls old new = new ≡ old
+Leaves n (Err (Failed k kept)) calls old new = (kept ≡ false) × Made n calls old (Some k) new
+Leaves n (Err (Differs p expected found)) calls old new = ⊥
+Leaves n (Err NoMemory) calls old new = new ≡ old
 
 -- the answer where the writes are done or one of them failed
 abbrev pub answer_if : {T : Type 0} → Bool → T → Result T HomeFault

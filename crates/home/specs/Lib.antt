@@ -1,6 +1,11 @@
 pub mod Answers
 pub mod Asked
+pub mod CallLaws
+pub mod Changes
+pub mod Commits
 pub mod Device
 pub mod Ends
+pub mod Grants
+pub mod Moves
 pub mod Parts
 pub mod Places

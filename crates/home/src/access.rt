@@ -8,7 +8,7 @@ ghost use Rattle.home_laws.specs.Refused.{access_refusal, is_bad_range};
 ghost use Rattle.home.specs.declared.fault.HomeFault.TheVariants.{Failed as failed};
 ghost use Rattle.home.specs.Asked.{asked, next_as, done_as};
 ghost use Rattle.home.specs.Answers.{refused_as, home_after, Leaves};
-ghost use Rattle.home.specs.Device.{work_on};
+ghost use Rattle.home.specs.Device.{work_on, told_by};
 ghost use Rattle.home.specs.Parts.{IsPrepared};
 
 use crate::fault::HomeFault;
@@ -57,9 +57,8 @@ impl Home {
         ensures refused { refused_as result ≡ access_refusal (asked a.now) self.old }
         ensures next { IfOk result (λ n. next_as n ≡ (access (asked a.now) owned (work_on self.old)).next) }
         ensures home { self.new ≡ home_after result self.old (access (asked a.now) owned (work_on self.old)).work.home }
-        ensures pages { Leaves result (access (asked a.now) owned (work_on self.old)).work.calls (S.pages s.old) (S.pages s.new) }
+        ensures made { Leaves self.old.txs.node result (access (asked a.now) owned (work_on self.old)).work.calls (told_by (S.pages s.old) (S.logs s.old) (S.stops s.old)) (told_by (S.pages s.new) (S.logs s.new) (S.stops s.new)) }
         ensures sizes { HasSizes self.old.config (S.pages s.new) (S.logs s.new) (S.rooms s.new) }
-        ensures logs { S.logs s.new ≡ S.logs s.old }
         ensures rooms { S.rooms s.new ≡ S.rooms s.old }
         ensures failing { S.failing s.new ≡ S.failing s.old }
         ensures counts { (k : Kind) → S.faults s.old k ≤ S.faults s.new k }
@@ -83,9 +82,8 @@ impl Parts {
         ensures prepared { IsPrepared self.new }
         ensures next { IfOk result (λ n. next_as n ≡ (access (asked a.now) owned (work_on self.old.home)).next) }
         ensures home { self.new.home ≡ home_after result self.old.home (access (asked a.now) owned (work_on self.old.home)).work.home }
-        ensures pages { Leaves result (access (asked a.now) owned (work_on self.old.home)).work.calls (S.pages s.old) (S.pages s.new) }
+        ensures made { Leaves self.old.node result (access (asked a.now) owned (work_on self.old.home)).work.calls (told_by (S.pages s.old) (S.logs s.old) (S.stops s.old)) (told_by (S.pages s.new) (S.logs s.new) (S.stops s.new)) }
         ensures sizes { HasSizes self.old.home.config (S.pages s.new) (S.logs s.new) (S.rooms s.new) }
-        ensures logs { S.logs s.new ≡ S.logs s.old }
         ensures rooms { S.rooms s.new ≡ S.rooms s.old }
         ensures failing { S.failing s.new ≡ S.failing s.old }
         ensures counts { (k : Kind) → S.faults s.old k ≤ S.faults s.new k }

@@ -1,70 +1,7 @@
-ghost use Rattle.std.specs.Prelude.{ℕ, None};
-
 use super::*;
-use disk_model::Storage;
-use pcl_base::{Config, Failed, Mode, NoMemory, NodeNo, PageNo, Reason, Request, TxId};
+use crate::counter::Counter;
+use pcl_base::{Config, Mode, Reason, Request, TxId};
 use std::rt::HostRuntime;
-
-/// It counts the page writes, and tells nothing.
-#[derive(Drop)]
-struct Counter {
-    writes: u32,
-}
-
-impl Storage for Counter {
-    ghost pages = { λ _. None };
-
-    ghost logs = { λ _. None };
-
-    ghost rooms = { λ _. None };
-
-    ghost stops = { λ _. None };
-
-    ghost failing = { λ _. None };
-
-    ghost faults = { λ _ _. 0 };
-
-    fn room(&mut self, _node: NodeNo, _bytes: u64) -> Result<(), NoMemory> {
-        Ok(())
-    }
-
-    fn read_page(&mut self, _by: NodeNo, _page: PageNo, out: &mut [u8]) -> Result<(), Failed> {
-        out.fill(0);
-        Ok(())
-    }
-
-    fn log_len(&mut self, _by: NodeNo, _node: NodeNo) -> Result<u64, Failed> {
-        Ok(0)
-    }
-
-    fn read_log(
-        &mut self,
-        _by: NodeNo,
-        _node: NodeNo,
-        _from: u64,
-        out: &mut [u8],
-    ) -> Result<(), Failed> {
-        out.fill(0);
-        Ok(())
-    }
-
-    fn write_page(&mut self, _by: NodeNo, _page: PageNo, _bytes: &[u8]) -> Result<(), Failed> {
-        self.writes = self.writes.saturating_add(1);
-        Ok(())
-    }
-
-    fn force(&mut self, _node: NodeNo, _bytes: &[u8]) -> Result<(), Failed> {
-        Ok(())
-    }
-
-    fn trim_log(&mut self, _node: NodeNo, _keep: u64) -> Result<(), Failed> {
-        Ok(())
-    }
-
-    fn cut_log(&mut self, _node: NodeNo, _count: u64) -> Result<(), Failed> {
-        Ok(())
-    }
-}
 
 // A first read asks the owner and waits; a second access is refused, and so is the eviction of a page
 // without a copy.
@@ -74,7 +11,7 @@ fn a_waiting_access(rt: HostRuntime) {
     assert_eq!(rt; config.nodes(), 2);
     match Home::open(rt.alloc(), &config, 1, 1) {
         Ok(mut home) => {
-            let mut disk = Counter { writes: 0 };
+            let mut disk = Counter::new(0, 0);
             let begun = home.begin().ok();
             let tx = TxId {
                 node: 1,

@@ -5,7 +5,7 @@ ghost use Rattle.disk_model.specs.Disk.{HasSizes};
 ghost use Rattle.node_rules.specs.Work.{write_back};
 ghost use Rattle.home_laws.specs.Homes.{IsHome};
 ghost use Rattle.home.specs.declared.fault.HomeFault.TheVariants.{Failed as failed, NoMemory as no_memory};
-ghost use Rattle.home.specs.Device.{work_on, Made, RoseIf};
+ghost use Rattle.home.specs.Device.{work_on, told_by, MadeIf, RoseIf};
 ghost use Rattle.home.specs.Answers.{evict_refusal, flush_refusal, evict_copy, refused_as, home_after, Leaves, answer_if};
 
 use crate::fault::HomeFault;
@@ -23,9 +23,8 @@ impl Home {
         ensures refused { refused_as result ≡ evict_refusal page self.old }
         ensures memory { result ≢ Err no_memory }
         ensures home { self.new ≡ home_after result self.old (evict_copy page (work_on self.old)).home }
-        ensures pages { Leaves result (evict_copy page (work_on self.old)).calls (S.pages s.old) (S.pages s.new) }
+        ensures made { Leaves self.old.txs.node result (evict_copy page (work_on self.old)).calls (told_by (S.pages s.old) (S.logs s.old) (S.stops s.old)) (told_by (S.pages s.new) (S.logs s.new) (S.stops s.new)) }
         ensures sizes { HasSizes self.old.config (S.pages s.new) (S.logs s.new) (S.rooms s.new) }
-        ensures logs { S.logs s.new ≡ S.logs s.old }
         ensures rooms { S.rooms s.new ≡ S.rooms s.old }
         ensures failing { S.failing s.new ≡ S.failing s.old }
         ensures counts { (k : Kind) → S.faults s.old k ≤ S.faults s.new k }
@@ -48,9 +47,8 @@ impl Home {
         ensures refused { refused_as result ≡ flush_refusal page self.old }
         ensures memory { result ≢ Err no_memory }
         ensures home { self.new ≡ home_after result self.old (write_back page (work_on self.old)).home }
-        ensures pages { Leaves result (write_back page (work_on self.old)).calls (S.pages s.old) (S.pages s.new) }
+        ensures made { Leaves self.old.txs.node result (write_back page (work_on self.old)).calls (told_by (S.pages s.old) (S.logs s.old) (S.stops s.old)) (told_by (S.pages s.new) (S.logs s.new) (S.stops s.new)) }
         ensures sizes { HasSizes self.old.config (S.pages s.new) (S.logs s.new) (S.rooms s.new) }
-        ensures logs { S.logs s.new ≡ S.logs s.old }
         ensures rooms { S.rooms s.new ≡ S.rooms s.old }
         ensures failing { S.failing s.new ≡ S.failing s.old }
         ensures counts { (k : Kind) → S.faults s.old k ≤ S.faults s.new k }
@@ -74,9 +72,8 @@ impl Parts {
         requires size { self.old.home.pool.size ≡ self.old.home.config.size }
         requires sizes { HasSizes self.old.home.config (S.pages s.old) (S.logs s.old) (S.rooms s.old) }
         ensures home { self.new ≡ record self.old { home = (evict_copy page (work_on self.old.home)).home } }
-        ensures made { Made true result (evict_copy page (work_on self.old.home)).calls (S.pages s.old) (S.pages s.new) }
+        ensures made { MadeIf self.old.node true result (evict_copy page (work_on self.old.home)).calls (told_by (S.pages s.old) (S.logs s.old) (S.stops s.old)) (told_by (S.pages s.new) (S.logs s.new) (S.stops s.new)) }
         ensures sizes { HasSizes self.old.home.config (S.pages s.new) (S.logs s.new) (S.rooms s.new) }
-        ensures logs { S.logs s.new ≡ S.logs s.old }
         ensures rooms { S.rooms s.new ≡ S.rooms s.old }
         ensures failing { S.failing s.new ≡ S.failing s.old }
         ensures counts { (k : Kind) → S.faults s.old k ≤ S.faults s.new k }

@@ -12,7 +12,8 @@ pub enum HomeFault {
     Failed {
         /// The kind of the call.
         call: Call,
-        /// Whether the log has the whole record of the transaction that was to be committed.
+        /// Whether the log is known to have the whole record of the transaction that was to be
+        /// committed. False also where its length can't be asked after the force.
         kept: bool,
     },
     /// A page was read with another number or version than it must have.

@@ -7,7 +7,7 @@ ghost use Rattle.node_rules.specs.OpenTxs.{held_by};
 ghost use Rattle.node_rules.specs.AccessRule.{take_slot, take_private, pin_once, take_frames};
 ghost use Rattle.buffer_pool.specs.Buffer.{IsBuffer};
 ghost use Rattle.home.specs.Asked.{asked};
-ghost use Rattle.home.specs.Device.{work_on, Made, RoseIf};
+ghost use Rattle.home.specs.Device.{work_on, told_by, MadeIf, RoseIf};
 ghost use Rattle.home.specs.Parts.{GoWell, MayTakeFrames};
 
 use crate::access::Access;
@@ -24,9 +24,8 @@ impl Parts {
         requires size { self.old.home.pool.size ≡ self.old.home.config.size }
         requires sizes { HasSizes self.old.home.config (S.pages s.old) (S.logs s.old) (S.rooms s.old) }
         ensures home { self.new ≡ record self.old { home = (take_slot page (work_on self.old.home)).home } }
-        ensures made { Made going result (take_slot page (work_on self.old.home)).calls (S.pages s.old) (S.pages s.new) }
+        ensures made { MadeIf self.old.node going result (take_slot page (work_on self.old.home)).calls (told_by (S.pages s.old) (S.logs s.old) (S.stops s.old)) (told_by (S.pages s.new) (S.logs s.new) (S.stops s.new)) }
         ensures sizes { HasSizes self.old.home.config (S.pages s.new) (S.logs s.new) (S.rooms s.new) }
-        ensures logs { S.logs s.new ≡ S.logs s.old }
         ensures rooms { S.rooms s.new ≡ S.rooms s.old }
         ensures failing { S.failing s.new ≡ S.failing s.old }
         ensures counts { (k : Kind) → S.faults s.old k ≤ S.faults s.new k }
@@ -57,9 +56,8 @@ impl Parts {
         requires size { self.old.home.pool.size ≡ self.old.home.config.size }
         requires sizes { HasSizes self.old.home.config (S.pages s.old) (S.logs s.old) (S.rooms s.old) }
         ensures home { self.new ≡ record self.old { home = (take_private tx page write.now (work_on self.old.home)).home } }
-        ensures made { Made going result (take_private tx page write.now (work_on self.old.home)).calls (S.pages s.old) (S.pages s.new) }
+        ensures made { MadeIf self.old.node going result (take_private tx page write.now (work_on self.old.home)).calls (told_by (S.pages s.old) (S.logs s.old) (S.stops s.old)) (told_by (S.pages s.new) (S.logs s.new) (S.stops s.new)) }
         ensures sizes { HasSizes self.old.home.config (S.pages s.new) (S.logs s.new) (S.rooms s.new) }
-        ensures logs { S.logs s.new ≡ S.logs s.old }
         ensures rooms { S.rooms s.new ≡ S.rooms s.old }
         ensures failing { S.failing s.new ≡ S.failing s.old }
         ensures counts { (k : Kind) → S.faults s.old k ≤ S.faults s.new k }
@@ -92,9 +90,8 @@ impl Parts {
         requires may { MayTakeFrames (asked a.now) self.old.home.config self.old.home.pool }
         requires sizes { HasSizes self.old.home.config (S.pages s.old) (S.logs s.old) (S.rooms s.old) }
         ensures home { self.new ≡ record self.old { home = (take_frames (asked a.now) (work_on self.old.home)).home } }
-        ensures made { Made true result (take_frames (asked a.now) (work_on self.old.home)).calls (S.pages s.old) (S.pages s.new) }
+        ensures made { MadeIf self.old.node true result (take_frames (asked a.now) (work_on self.old.home)).calls (told_by (S.pages s.old) (S.logs s.old) (S.stops s.old)) (told_by (S.pages s.new) (S.logs s.new) (S.stops s.new)) }
         ensures sizes { HasSizes self.old.home.config (S.pages s.new) (S.logs s.new) (S.rooms s.new) }
-        ensures logs { S.logs s.new ≡ S.logs s.old }
         ensures rooms { S.rooms s.new ≡ S.rooms s.old }
         ensures failing { S.failing s.new ≡ S.failing s.old }
         ensures counts { (k : Kind) → S.faults s.old k ≤ S.faults s.new k }

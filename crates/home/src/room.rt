@@ -7,7 +7,7 @@ ghost use Rattle.node_rules.specs.BufferRule.{dirty, free_frames, can_go, victim
 ghost use Rattle.node_rules.specs.Work.{write_back};
 ghost use Rattle.node_rules.specs.AccessRule.{make_room};
 ghost use Rattle.buffer_pool.specs.Buffer.{IsBuffer};
-ghost use Rattle.home.specs.Device.{work_on, Made, RoseIf};
+ghost use Rattle.home.specs.Device.{work_on, told_by, MadeIf, RoseIf};
 ghost use Rattle.home.specs.Parts.{GoWell};
 
 use crate::parts::Parts;
@@ -30,9 +30,8 @@ impl Parts {
         requires size { self.old.home.pool.size ≡ self.old.home.config.size }
         requires sizes { HasSizes self.old.home.config (S.pages s.old) (S.logs s.old) (S.rooms s.old) }
         ensures same { self.new ≡ self.old }
-        ensures made { Made true result (write_back page (work_on self.old.home)).calls (S.pages s.old) (S.pages s.new) }
+        ensures made { MadeIf self.old.node true result (write_back page (work_on self.old.home)).calls (told_by (S.pages s.old) (S.logs s.old) (S.stops s.old)) (told_by (S.pages s.new) (S.logs s.new) (S.stops s.new)) }
         ensures sizes { HasSizes self.old.home.config (S.pages s.new) (S.logs s.new) (S.rooms s.new) }
-        ensures logs { S.logs s.new ≡ S.logs s.old }
         ensures rooms { S.rooms s.new ≡ S.rooms s.old }
         ensures failing { S.failing s.new ≡ S.failing s.old }
         ensures counts { (k : Kind) → S.faults s.old k ≤ S.faults s.new k }
@@ -53,9 +52,8 @@ impl Parts {
         requires size { self.old.home.pool.size ≡ self.old.home.config.size }
         requires sizes { HasSizes self.old.home.config (S.pages s.old) (S.logs s.old) (S.rooms s.old) }
         ensures home { self.new ≡ record self.old { home = (write_back page (work_on self.old.home)).home } }
-        ensures made { Made going result (write_back page (work_on self.old.home)).calls (S.pages s.old) (S.pages s.new) }
+        ensures made { MadeIf self.old.node going result (write_back page (work_on self.old.home)).calls (told_by (S.pages s.old) (S.logs s.old) (S.stops s.old)) (told_by (S.pages s.new) (S.logs s.new) (S.stops s.new)) }
         ensures sizes { HasSizes self.old.home.config (S.pages s.new) (S.logs s.new) (S.rooms s.new) }
-        ensures logs { S.logs s.new ≡ S.logs s.old }
         ensures rooms { S.rooms s.new ≡ S.rooms s.old }
         ensures failing { S.failing s.new ≡ S.failing s.old }
         ensures counts { (k : Kind) → S.faults s.old k ≤ S.faults s.new k }
@@ -81,9 +79,8 @@ impl Parts {
         requires size { self.old.home.pool.size ≡ self.old.home.config.size }
         requires sizes { HasSizes self.old.home.config (S.pages s.old) (S.logs s.old) (S.rooms s.old) }
         ensures home { self.new ≡ record self.old { home = (make_room keep (work_on self.old.home)).home } }
-        ensures made { Made going result (make_room keep (work_on self.old.home)).calls (S.pages s.old) (S.pages s.new) }
+        ensures made { MadeIf self.old.node going result (make_room keep (work_on self.old.home)).calls (told_by (S.pages s.old) (S.logs s.old) (S.stops s.old)) (told_by (S.pages s.new) (S.logs s.new) (S.stops s.new)) }
         ensures sizes { HasSizes self.old.home.config (S.pages s.new) (S.logs s.new) (S.rooms s.new) }
-        ensures logs { S.logs s.new ≡ S.logs s.old }
         ensures rooms { S.rooms s.new ≡ S.rooms s.old }
         ensures failing { S.failing s.new ≡ S.failing s.old }
         ensures counts { (k : Kind) → S.faults s.old k ≤ S.faults s.new k }

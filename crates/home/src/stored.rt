@@ -1,9 +1,11 @@
-ghost use Rattle.std.specs.Prelude.{◌≡◌, ℕ, ◌≤◌, ◌+◌, ◌⊎◌, drop, length, true, false};
+ghost use Rattle.std.specs.Prelude.{◌≡◌, ℕ, ◌≤◌, ◌+◌, [], ◌∷◌, drop, length, true, false};
 ghost use Rattle.pcl_base.specs.Faults.{Rose};
 ghost use Rattle.pcl_base.specs.Limits.{Sizes};
 ghost use Rattle.pcl_base.specs.declared.trace.Call.{Call as Kind};
 ghost use Rattle.text_rules.specs.StoredPage.{stored_bytes};
-ghost use Rattle.disk_model.specs.Disk.{told_at, IsIn, HasLength, HasSizes, with_page};
+ghost use Rattle.disk_model.specs.Disk.{told_at, IsIn, HasLength, HasSizes};
+ghost use Rattle.node_rules.specs.DiskCalls.{WritePage};
+ghost use Rattle.home.specs.Device.{told_by, MadeIf};
 
 use disk_model::{Call, Storage};
 use pcl_base::{Failed, NodeNo, PageNo, Version};
@@ -27,10 +29,8 @@ pub(crate) fn write_stored<S: Storage>(
     requires stored { HasLength (told_at (S.pages s.old) page) (length raw.old) }
     requires length { length raw.old ≡ length bytes.now + 16 }
     ensures raw { length raw.new ≡ length raw.old }
-    ensures written { result ≡ true → S.pages s.new ≡ with_page (S.pages s.old) page (stored_bytes page (record { version = version; bytes = bytes.now })) }
-    ensures torn { (S.pages s.new ≡ S.pages s.old) ⊎ (S.pages s.new ≡ with_page (S.pages s.old) page (stored_bytes page (record { version = version; bytes = bytes.now }))) }
+    ensures made { MadeIf by true result (WritePage page (stored_bytes page (record { version = version; bytes = bytes.now })) ∷ []) (told_by (S.pages s.old) (S.logs s.old) (S.stops s.old)) (told_by (S.pages s.new) (S.logs s.new) (S.stops s.new)) }
     ensures sizes { (c : Sizes) → length raw.old ≡ c.size + 16 → HasSizes c (S.pages s.old) (S.logs s.old) (S.rooms s.old) → HasSizes c (S.pages s.new) (S.logs s.new) (S.rooms s.new) }
-    ensures logs { S.logs s.new ≡ S.logs s.old }
     ensures rooms { S.rooms s.new ≡ S.rooms s.old }
     ensures failing { S.failing s.new ≡ S.failing s.old }
     ensures counts { (k : Kind) → S.faults s.old k ≤ S.faults s.new k }

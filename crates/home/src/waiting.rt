@@ -9,7 +9,7 @@ ghost use Rattle.home_laws.specs.Refused.{access_refusal};
 ghost use Rattle.home.specs.declared.fault.HomeFault.TheVariants.{Failed as failed};
 ghost use Rattle.home.specs.Asked.{asked, next_as};
 ghost use Rattle.home.specs.Answers.{refused_as, home_after, Leaves};
-ghost use Rattle.home.specs.Device.{work_on};
+ghost use Rattle.home.specs.Device.{work_on, told_by};
 ghost use Rattle.home.specs.Parts.{IsPrepared};
 
 use crate::access::{Access, Next};
@@ -37,9 +37,8 @@ impl Parts {
         ensures next { IfOk result (λ n. next_as n ≡ (access (asked a.now) owned (work_on self.old.home)).next) }
         ensures home { self.new.home ≡ home_after result self.old.home (access (asked a.now) owned (work_on self.old.home)).work.home }
         ensures prepared { IsPrepared self.new }
-        ensures pages { Leaves result (access (asked a.now) owned (work_on self.old.home)).work.calls (S.pages s.old) (S.pages s.new) }
+        ensures made { Leaves self.old.node result (access (asked a.now) owned (work_on self.old.home)).work.calls (told_by (S.pages s.old) (S.logs s.old) (S.stops s.old)) (told_by (S.pages s.new) (S.logs s.new) (S.stops s.new)) }
         ensures sizes { HasSizes self.old.home.config (S.pages s.new) (S.logs s.new) (S.rooms s.new) }
-        ensures logs { S.logs s.new ≡ S.logs s.old }
         ensures rooms { S.rooms s.new ≡ S.rooms s.old }
         ensures failing { S.failing s.new ≡ S.failing s.old }
         ensures counts { (k : Kind) → S.faults s.old k ≤ S.faults s.new k }

@@ -4,8 +4,8 @@ use Rattle.node_rules.specs.BufferRule.{evict, free_frames, copy_at, pinned, dir
 use Rattle.node_rules.specs.Work.{with_pool}
 use Rattle.home.specs.Device.{work_on}
 use Rattle.home.specs.Parts.{PartsView}
-use Rattle.home.proofs.WriteBack.{made_none}
-use Rattle.home.proofs.Victims.{made_as, with_home_as, room_free, room_taken, one_goes, goes_below, goes_loose, goes_copy, written_back}
+use Rattle.home.proofs.Making.{made_as, made_none}
+use Rattle.home.proofs.Victims.{with_home_as, room_free, room_taken, one_goes, goes_below, goes_loose, goes_copy, written_back}
 use Rattle.home.proofs.parts.Parts.make_room.Goals as goal
 
 pub returns-then-free-gt0-clause-home : goal.returns-then-free-gt0-clause-home
@@ -16,7 +16,7 @@ returns-then-free-gt0-clause-home g c =
 pub returns-then-free-gt0-clause-made : goal.returns-then-free-gt0-clause-made
 returns-then-free-gt0-clause-made g c =
     let some = c.if-free-gt0.true in
-    made_as c.args.going c.args.going _ _ _ _ (ap (λ w. w.calls) (room_free c.args.keep (work_on c.args.self.now.home) (omega (arith, some, c.free.ensures.value)))) (made_none c.args.going _)
+    made_as _ c.args.going c.args.going _ _ _ _ (ap (λ w. w.calls) (room_free c.args.keep (work_on c.args.self.now.home) (omega (arith, some, c.free.ensures.value)))) (made_none _ c.args.going _)
 
 pub unreachable-requires : goal.unreachable-requires
 unreachable-requires g c =
@@ -55,4 +55,4 @@ pub returns-clause-made : goal.returns-clause-made
 returns-clause-made g c =
     let full : nat_lt 0 (free_frames c.args.self.now.home.pool) ≡ false = (let none = c.if-free-gt0.false in let value = c.free.ensures.value in grind (arith, nat_tests)) in
     let taken = room_taken c.args.keep c.in-Some.page c.args.self.now.home.config c.args.self.now.home.pool c.free.ensures.sound c.requires.go (sym c.in-Some.is ∙ c.victim.ensures) (work_on c.args.self.now.home) refl full in
-    made_as c.args.going c.write_back-written.result _ _ _ _ (ap (λ w. w.calls) taken) c.write_back-written.ensures.made
+    made_as _ c.args.going c.write_back-written.result _ _ _ _ (ap (λ w. w.calls) taken) c.write_back-written.ensures.made

@@ -4,9 +4,10 @@ use Rattle.node_rules.specs.AccessRule.{Access, take_slot, take_private, pin_onc
 use Rattle.home.specs.Asked.{asked}
 use Rattle.home.specs.Device.{work_on}
 use Rattle.home.specs.Parts.{PartsView, GoWell}
-use Rattle.home.proofs.Victims.{made_as, with_home_as}
+use Rattle.home.proofs.Making.{made_as, made_by, made_then}
+use Rattle.home.proofs.Victims.{with_home_as}
 use Rattle.home.proofs.Framing.{slot_config, slot_sound, slot_size, slot_none, slot_room, slot_go, last_slot, last_few}
-use Rattle.home.proofs.Calling.{frames_have, frames_steps, made_then}
+use Rattle.home.proofs.Calling.{frames_have, frames_steps}
 use Rattle.home.proofs.parts.Parts.take_frames.Goals as goal
 
 pub take_private-written-requires-clause-sound : goal.take_private-written-requires-clause-sound
@@ -61,9 +62,11 @@ pub returns-clause-made : goal.returns-clause-made
 returns-clause-made g c =
     let a : Access = asked c.args.a.now in
     let calls = ap (λ v. (take_private a.tx a.page a.write (work_on v.home)).calls) c.take_slot-going.ensures.home in
-    made_as true c.take_private-written.result _ _ _ _ (frames_have a (work_on c.args.self.now.home))
-    (made_then c.take_slot-going.result c.take_private-written.result _ _ _ _ _ c.take_slot-going.ensures.made
-    (made_as c.take_slot-going.result c.take_private-written.result _ _ _ _ (sym calls) c.take_private-written.ensures.made))
+    let node = ap (λ v. v.node) c.take_slot-going.ensures.home in
+    made_as _ true c.take_private-written.result _ _ _ _ (frames_have a (work_on c.args.self.now.home))
+    (made_then _ c.take_slot-going.result c.take_private-written.result _ _ _ _ _ c.take_slot-going.ensures.made
+    (made_by _ _ c.take_slot-going.result c.take_private-written.result _ _ _ (sym node)
+    (made_as _ c.take_slot-going.result c.take_private-written.result _ _ _ _ (sym calls) c.take_private-written.ensures.made)))
 
 pub returns-clause-sizes : goal.returns-clause-sizes
 returns-clause-sizes g c =

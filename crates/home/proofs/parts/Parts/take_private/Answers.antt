@@ -4,8 +4,8 @@ use Rattle.node_rules.specs.Work.{with_pool}
 use Rattle.node_rules.specs.AccessRule.{take_private}
 use Rattle.home.specs.Device.{work_on}
 use Rattle.home.specs.Parts.{PartsView}
-use Rattle.home.proofs.WriteBack.{made_none}
-use Rattle.home.proofs.Victims.{made_as, with_home_as}
+use Rattle.home.proofs.Making.{made_as, made_none}
+use Rattle.home.proofs.Victims.{with_home_as}
 use Rattle.home.proofs.Framing.{private_placed, private_none, room_there, room_privates}
 use Rattle.home.proofs.parts.Parts.take_private.Goals as goal
 
@@ -28,7 +28,7 @@ pub returns-in-None-clause-made : goal.returns-in-None-clause-made
 returns-in-None-clause-made g c =
     let none : take_private c.args.tx c.args.page c.args.write.now (work_on c.args.self.now.home) ≡ work_on c.args.self.now.home =
     ap (λ o. take_private c.args.tx c.args.page o (work_on c.args.self.now.home)) c.in-None.is ∙ private_none c.args.tx c.args.page (work_on c.args.self.now.home) in
-    made_as c.args.going c.args.going _ _ _ _ (ap (λ w. w.calls) none) (made_none c.args.going _)
+    made_as _ c.args.going c.args.going _ _ _ _ (ap (λ w. w.calls) none) (made_none _ c.args.going _)
 
 pub returns-in-Some-clause-home : goal.returns-in-Some-clause-home
 returns-in-Some-clause-home g c =
@@ -41,4 +41,4 @@ pub returns-in-Some-clause-made : goal.returns-in-Some-clause-made
 returns-in-Some-clause-made g c =
     let placed =
     ap (λ o. take_private c.args.tx c.args.page o (work_on c.args.self.now.home)) c.in-Some.is ∙ private_placed c.args.tx c.args.page _ (work_on c.args.self.now.home) c.requires.none in
-    made_as c.args.going c.make_room-written.result _ _ _ _ (ap (λ w. w.calls) placed) c.make_room-written.ensures.made
+    made_as _ c.args.going c.make_room-written.result _ _ _ _ (ap (λ w. w.calls) placed) c.make_room-written.ensures.made

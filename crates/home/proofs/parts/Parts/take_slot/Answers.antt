@@ -3,8 +3,8 @@ use Rattle.node_rules.specs.BufferRule.{place, free_frames, can_go, one_unless}
 use Rattle.node_rules.specs.Work.{with_pool}
 use Rattle.home.specs.Device.{work_on}
 use Rattle.home.specs.Parts.{PartsView}
-use Rattle.home.proofs.WriteBack.{made_none}
-use Rattle.home.proofs.Victims.{made_as, with_home_as}
+use Rattle.home.proofs.Making.{made_as, made_none}
+use Rattle.home.proofs.Victims.{with_home_as}
 use Rattle.home.proofs.Framing.{slot_had, slot_placed, room_there, room_page}
 use Rattle.home.proofs.parts.Parts.take_slot.Goals as goal
 
@@ -16,7 +16,7 @@ returns-then-has_slot-clause-home g c =
 pub returns-then-has_slot-clause-made : goal.returns-then-has_slot-clause-made
 returns-then-has_slot-clause-made g c =
     let had = sym c.has_slot.ensures.value ∙ c.if-has_slot.true in
-    made_as c.args.going c.args.going _ _ _ _ (ap (λ w. w.calls) (slot_had c.args.page (work_on c.args.self.now.home) had)) (made_none c.args.going _)
+    made_as _ c.args.going c.args.going _ _ _ _ (ap (λ w. w.calls) (slot_had c.args.page (work_on c.args.self.now.home) had)) (made_none _ c.args.going _)
 
 pub make_room-written-requires-clause-room : goal.make_room-written-requires-clause-room
 make_room-written-requires-clause-room g c =
@@ -44,4 +44,4 @@ returns-clause-home g c =
 pub returns-clause-made : goal.returns-clause-made
 returns-clause-made g c =
     let none = sym c.has_slot.ensures.value ∙ c.if-has_slot.false in
-    made_as c.args.going c.make_room-written.result _ _ _ _ (ap (λ w. w.calls) (slot_placed c.args.page (work_on c.args.self.now.home) none)) c.make_room-written.ensures.made
+    made_as _ c.args.going c.make_room-written.result _ _ _ _ (ap (λ w. w.calls) (slot_placed c.args.page (work_on c.args.self.now.home) none)) c.make_room-written.ensures.made

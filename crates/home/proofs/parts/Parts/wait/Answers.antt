@@ -1,4 +1,4 @@
-use Rattle.std.proofs.Common.{◌≡◌, refl, ap, sym, subst, ◌∙◌}
+use Rattle.std.proofs.Common.{◌≡◌, true, refl, ap, sym, subst, ◌∙◌}
 use Rattle.node_rules.specs.OpenTxs.{is_open, pending_of}
 use Rattle.node_rules.specs.BufferRule.{find}
 use Rattle.node_rules.specs.NodeState.{HomeState}
@@ -8,7 +8,8 @@ use Rattle.home.specs.Asked.{asked}
 use Rattle.home.specs.Device.{work_on}
 use Rattle.home.specs.Parts.{MayTakeFrames}
 use Rattle.home.proofs.Accessing.{wait_home, wait_calls, wait_next}
-use Rattle.home.proofs.Doing.{may_take, wait_prepared, made_failed, made_done}
+use Rattle.home.proofs.Doing.{may_take, wait_prepared, failed_made, done_made}
+use Rattle.home.proofs.Making.{made_as, made_by}
 use Rattle.home.proofs.parts.Parts.wait.Goals as goal
 
 pub enter-requires-clause-open : goal.enter-requires-clause-open
@@ -37,14 +38,18 @@ returns-then-not-written-clause-prepared g c =
     wait_prepared (asked c.args.a.now) c.args.self.now c.reserve_grant.new.self c.enter.new.self c.take_frames-written.new.self c.requires.home (allowed (asked c.args.a.now) c.args.self.now.home c.requires.none) c.requires.prepared
     c.reserve_grant.ensures.home c.reserve_grant.ensures.kept c.in_ok-reserve_grant.ensures.memory c.in_ok-enter.ensures.ok c.take_frames-written.ensures.home
 
-pub returns-then-not-written-clause-pages : goal.returns-then-not-written-clause-pages
-returns-then-not-written-clause-pages g c =
+pub returns-then-not-written-clause-made : goal.returns-then-not-written-clause-made
+returns-then-not-written-clause-made g c =
     let a : Access = asked c.args.a.now in
     let entered : c.enter.new.self.home ≡ waiting a c.args.self.now.home = ap (λ v. v.home) c.in_ok-enter.ensures.ok ∙ ap (waiting a) c.reserve_grant.ensures.home in
     let calls =
     wait_calls a c.args.self.now.home c.requires.home (allowed a c.args.self.now.home c.requires.none) c.args.owned c.requires.held c.requires.allowed
     ∙ sym (ap (λ h. (take_frames a (work_on h)).calls) entered) in
-    (refl, refl, made_failed c.take_frames-written.result _ _ _ _ calls c.take_frames-written.ensures.made c.if-not-written.true)
+    let node = ap (λ v. v.node) c.in_ok-enter.ensures.ok ∙ c.reserve_grant.ensures.kept.node in (
+      refl,
+      failed_made _ c.take_frames-written.result _ _ _ c.if-not-written.true
+          (made_by _ _ true c.take_frames-written.result _ _ _ (sym node) (made_as _ true c.take_frames-written.result _ _ _ _ calls c.take_frames-written.ensures.made)),
+    )
 
 pub returns-clause-next : goal.returns-clause-next
 returns-clause-next g c =
@@ -67,11 +72,13 @@ returns-clause-prepared g c =
     wait_prepared (asked c.args.a.now) c.args.self.now c.reserve_grant.new.self c.enter.new.self c.take_frames-written.new.self c.requires.home (allowed (asked c.args.a.now) c.args.self.now.home c.requires.none) c.requires.prepared
     c.reserve_grant.ensures.home c.reserve_grant.ensures.kept c.in_ok-reserve_grant.ensures.memory c.in_ok-enter.ensures.ok c.take_frames-written.ensures.home
 
-pub returns-clause-pages : goal.returns-clause-pages
-returns-clause-pages g c =
+pub returns-clause-made : goal.returns-clause-made
+returns-clause-made g c =
     let a : Access = asked c.args.a.now in
     let entered : c.enter.new.self.home ≡ waiting a c.args.self.now.home = ap (λ v. v.home) c.in_ok-enter.ensures.ok ∙ ap (waiting a) c.reserve_grant.ensures.home in
     let calls =
     wait_calls a c.args.self.now.home c.requires.home (allowed a c.args.self.now.home c.requires.none) c.args.owned c.requires.held c.requires.allowed
     ∙ sym (ap (λ h. (take_frames a (work_on h)).calls) entered) in
-    made_done c.take_frames-written.result _ _ _ _ calls c.take_frames-written.ensures.made c.if-not-written.false
+    let node = ap (λ v. v.node) c.in_ok-enter.ensures.ok ∙ c.reserve_grant.ensures.kept.node in
+    done_made _ c.take_frames-written.result _ _ _ c.if-not-written.false
+    (made_by _ _ true c.take_frames-written.result _ _ _ (sym node) (made_as _ true c.take_frames-written.result _ _ _ _ calls c.take_frames-written.ensures.made))

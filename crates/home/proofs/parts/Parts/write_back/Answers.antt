@@ -3,8 +3,9 @@ use Rattle.node_rules.specs.BufferRule.{clean}
 use Rattle.node_rules.specs.Work.{with_pool}
 use Rattle.home.specs.Device.{work_on}
 use Rattle.home.specs.Parts.{PartsView}
-use Rattle.home.proofs.WriteBack.{written_home, unwritten, made_none}
-use Rattle.home.proofs.Victims.{made_as, with_home_as}
+use Rattle.home.proofs.WriteBack.{written_home, unwritten}
+use Rattle.home.proofs.Making.{made_as, made_none}
+use Rattle.home.proofs.Victims.{with_home_as}
 use Rattle.home.proofs.parts.Parts.write_back.Goals as goal
 
 pub returns-then-not-is_dirty-clause-home : goal.returns-then-not-is_dirty-clause-home
@@ -15,7 +16,7 @@ returns-then-not-is_dirty-clause-home g c =
 pub returns-then-not-is_dirty-clause-made : goal.returns-then-not-is_dirty-clause-made
 returns-then-not-is_dirty-clause-made g c =
     let clean = sym c.is_dirty.ensures ∙ c.if-not-is_dirty.true in
-    made_as c.args.going c.args.going _ _ _ _ (ap (λ w. w.calls) (unwritten c.args.page (work_on c.args.self.now.home) clean)) (made_none c.args.going _)
+    made_as _ c.args.going c.args.going _ _ _ _ (ap (λ w. w.calls) (unwritten c.args.page (work_on c.args.self.now.home) clean)) (made_none _ c.args.going _)
 
 pub returns-then-not-going-clause-home : goal.returns-then-not-going-clause-home
 returns-then-not-going-clause-home g c =

@@ -1,0 +1,13 @@
+use Rattle.std.proofs.Common.{◌≡◌, ◌-◌, ◌^◌, ◌==◌, drop}
+use Rattle.std.specs.List.{list_any, AllByRecursion}
+use Rattle.node_rules.specs.BufferRule.{find}
+use Rattle.node_rules.specs.AccessRule.{version_or}
+use Rattle.home_laws.specs.EndNeeds.{IsBelowLast}
+use Rattle.home.specs.Commits.{exclusive_pages}
+use Rattle.home.proofs.parts.Parts.any_last.Given as goal
+
+abbrev pub invariant-loop-lock : goal.invariant-loop-lock
+invariant-loop-lock l = record {
+  rest : list_any (λ p. version_or (find l.self.home.pool p) == 2 ^ 64 - 1) (exclusive_pages (drop l.lock-index l.locks)) ≡ list_any (λ p. version_or (find l.self.home.pool p) == 2 ^ 64 - 1) (exclusive_pages l.locks);
+  below : AllByRecursion (IsBelowLast l.self.home.pool) (exclusive_pages (drop l.lock-index l.locks)) → AllByRecursion (IsBelowLast l.self.home.pool) (exclusive_pages l.locks);
+}
