@@ -20,7 +20,7 @@ is_below : (m n : ℕ) → m < n → nat_lt m n ≡ true
 is_below m n below = grind (arith, nat_tests)
 
 -- the pages from one that is below the end
-pages_first : (n step p end : ℕ) → p < end → pages_from (suc n) step p end ≡ p ∷ pages_from n step (p + step) end
+pub pages_first : (n step p end : ℕ) → p < end → pages_from (suc n) step p end ≡ p ∷ pages_from n step (p + step) end
 unfolding pages_from
 pages_first n step p end below = ap (λ b. pick b (p ∷ pages_from n step (p + step) end) []) (is_below p end below)
 

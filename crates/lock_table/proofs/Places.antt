@@ -15,7 +15,7 @@ use Rattle.lock_table.specs.Tables.{TableView, IsPageOf, FitsConfig, HasKept, fo
 use Rattle.lock_table.proofs.Pages.{row_of, entry_in_pages, same_rows, put_in_pages}
 
 -- a page is the page of its place
-page_of_place : (c : Sizes) (q page : ℕ) → page % c.nodes ≡ q → page ≡ q + c.nodes * (page / c.nodes)
+pub page_of_place : (c : Sizes) (q page : ℕ) → page % c.nodes ≡ q → page ≡ q + c.nodes * (page / c.nodes)
 page_of_place c q page own = sym (mod-add-div page c.nodes) ∙ ap (λ r. r + c.nodes * (page / c.nodes)) own
 
 -- two pages of a partition have two places
@@ -24,7 +24,7 @@ places_apart n q x page own_x own other same =
     let rests : x % n ≡ page % n = own_x ∙ sym own in
     other (sym (mod-add-div x n) ∙ ((λ i. rests i + n * same i) ∙ mod-add-div page n))
 
-low_place : (t : TableView) (page : ℕ) → IsPageOf t page → page / t.config.nodes < t.config.pages
+pub low_place : (t : TableView) (page : ℕ) → IsPageOf t page → page / t.config.nodes < t.config.pages
 low_place t page mine = omega (arith, div-le_self page t.config.nodes, mine.below)
 
 -- a lower page has no later place

@@ -1,5 +1,6 @@
 -- What contracts see of a table, and the lock table of the rules that it is.
-use Rattle.std.specs.Prelude.{◌≡◌, ℕ, ◌+◌, ◌/◌, ◌%◌, ◌==◌, ◌&&◌, ◌<◌, Bool, List, [], ◌∷◌, ◌++◌, map, length, nat_eq, Option, Some, None, is_some, unwrap_or, slice_index_or, slice_set}
+use Rattle.std.specs.Prelude.{◌≡◌, ℕ, ◌+◌, ◌/◌, ◌%◌, ◌==◌, ◌&&◌, ◌<◌, Bool, true, List, [], ◌∷◌, ◌++◌, map, length, nat_eq, Option, Some, None, is_some, unwrap_or, slice_index_or, slice_set}
+use Rattle.std.specs.List.{filter}
 use Rattle.std.specs.Map.{lookup, set_value}
 use Rattle.indexmap.specs.IndexMap.{insert_entry}
 use Rattle.pcl_base.specs.Limits.{Sizes, InLimits}
@@ -43,12 +44,21 @@ pub record IsPageOf (t : TableView) (p : ℕ) : Type 0 where
   pub below : p < t.config.pages
   pub own : p % t.config.nodes ≡ t.partition
 
--- the table's lists are those of its configuration
+-- an entry that was made is that of a page of the table's partition
+abbrev pub HasOwnEntries : TableView → Type 0
+HasOwnEntries t = (p : ℕ) → is_some (found t p) ≡ true → IsPageOf t p
+
+-- the table's lists are those of its configuration, and its entries those of its partition
 pub record FitsConfig (t : TableView) : Type 0 where
   pub limits : InLimits t.config
   pub partition : t.partition < t.config.nodes
   pub versions : length t.versions ≡ t.config.pages / t.config.nodes + 1
   pub reported : length t.reported ≡ t.config.nodes
+  pub own : HasOwnEntries t
+
+-- the pages of the table that have an entry, rising
+abbrev pub pages_made : TableView → List ℕ
+pages_made t = filter (λ p. is_some (found t p)) (pages_of t.config t.partition)
 
 -- whether an entry has empty lists
 abbrev pub is_idle : LockEntry → Bool

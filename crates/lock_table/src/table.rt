@@ -6,13 +6,13 @@ ghost use Rattle.std.specs.Option.{option_copied};
 ghost use Rattle.node_rules.specs.Words.{pick};
 ghost use Rattle.node_rules.specs.LockRule.{LockEntry};
 ghost use Rattle.node_rules.specs.LockTable.{open_table, entry_at, put_entry, set_version, mark, marked, serve};
-ghost use Rattle.lock_table.specs.Tables.{TableView, IsPageOf, FitsConfig, found, entry_of, table_of, is_idle, with_made, with_entry, HasKept, SamePlace};
+ghost use Rattle.lock_table.specs.Tables.{TableView, IsPageOf, FitsConfig, HasOwnEntries, found, pages_made, entry_of, table_of, is_idle, with_made, with_entry, HasKept, SamePlace};
 ghost use Rattle.lock_table.specs.Lending.{LendsAt, LendsMade};
 
 use indexmap::IndexMap;
 use lock_entry::Entry;
 use pcl_base::{Config, NoMemory, NodeNo, PageNo, Version};
-use std::alloc::Global;
+use std::alloc::{AllocError, Global};
 use std::marker::Model;
 
 /// The lock table of one partition.
@@ -143,8 +143,10 @@ impl Table {
         self.entries.get_mut(&page).unwrap()
     }
 
-    /// The pages with an entry, rising.
+    /// The pages with an entry, rising. Each of them is one of the table's partition.
     pub fn pages(&self) -> Result<Vec<PageNo>, NoMemory>
+        ensures own { HasOwnEntries self.now }
+        ensures listed { IfOk result (λ ps. ps.items ≡ pages_made self.now) }
         ensures rising { IfOk result (λ ps. IsSorted nat_cmp ps.items) }
         ensures all { IfOk result (λ ps. IsPermutation (keys_of self.now.entries) ps.items) }
     {
@@ -241,7 +243,7 @@ impl Table {
             partition: self.partition,
             serving: self.serving,
             versions: self.versions.clone()?,
-            entries: self.entries.clone()?,
+            entries: copy_entries(&self.entries)?,
             reported: self.reported.clone()?,
         })
     }
@@ -252,6 +254,7 @@ impl Table {
         requires { IsPageOf self.old page }
         ensures table { table_of self.new ≡ table_of self.old }
         ensures given_up { IfSome (found self.old page) (λ e. found self.new page ≡ pick (is_idle e) None (Some e)) }
+        ensures none { found self.old page ≡ None → found self.new page ≡ None }
         ensures others { (p : ℕ) → p ≢ page → found self.new p ≡ found self.old p }
         ensures place { SamePlace self.old self.new }
     {
@@ -283,4 +286,11 @@ fn is_idle(entry: &Entry) -> bool
     ensures { result ≡ is_idle entry.now }
 {
     entry.holders().is_empty() && entry.rights().is_empty() && entry.waiting().is_empty()
+}
+
+/// Equal entries in memory of their own.
+fn copy_entries(entries: &IndexMap<PageNo, Entry>) -> Result<IndexMap<PageNo, Entry>, AllocError>
+    ensures { IfOk result (λ m. m.entries ≡ entries.now.entries) }
+{
+    entries.clone()
 }
