@@ -77,7 +77,7 @@ no_front c pages bytes count is =
     let none : 0 ≡ count = cc in
     record { front = []; rest = bytes; same = refl; long = none; whole = refl; versions = λ p at stored. tt }
 
-front_up_to : (c : Sizes) (pages : List (List ℕ)) (n : ℕ) (bytes : List ℕ) (count : ℕ) → length bytes ≤ n → records_on_disk pages (records_of c bytes) ≡ Goes count → IsFront c pages bytes count
+pub front_up_to : (c : Sizes) (pages : List (List ℕ)) (n : ℕ) (bytes : List ℕ) (count : ℕ) → length bytes ≤ n → records_on_disk pages (records_of c bytes) ≡ Goes count → IsFront c pages bytes count
 unfolding records_on_disk entries_of
 front_up_to c pages n [] count few is = no_front c pages [] count is
 front_up_to c pages zero (x ∷ bs) count few is = absurd (omega (arith, few))
