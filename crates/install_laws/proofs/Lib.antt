@@ -9,3 +9,4 @@ pub mod Parts
 pub mod Worked
 pub mod Apart
 pub mod Alone
+pub mod Rows

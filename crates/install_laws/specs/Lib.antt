@@ -1,2 +1,3 @@
 pub mod InstallPlans
+pub mod InstallRows
 pub mod Laws

@@ -1,5 +1,6 @@
 //! The laws, each as the clause of an empty function.
 
+ghost use Rattle.install_laws.specs.InstallRows.{AnInstallIsWorked};
 ghost use Rattle.install_laws.specs.Laws.{SettlingIsPlanned, PartitionIsPlanned, PlansAreApart, InstallIsPlanned, ReportIsPlanned, PlansComeFirst, StepIsPlanned, EntriesSettleAlone, WritesAreNewer};
 
 /// Settling pages is putting their settled table, and then carrying the decisions out.
@@ -47,4 +48,9 @@ pub fn entries_settle_alone()
 /// The pages that a plan writes rise, are of its partition, and are newer than what is stored.
 pub fn writes_are_newer()
     ensures { WritesAreNewer }
+{}
+
+/// A worked install, in which a lost node's write is redone, is planned as it has to be.
+pub fn an_install_is_worked()
+    ensures { AnInstallIsWorked }
 {}

@@ -7,6 +7,7 @@
 mod laws;
 
 pub use laws::{
-    entries_settle_alone, install_is_planned, partition_is_planned, plans_are_apart,
-    plans_come_first, report_is_planned, settling_is_planned, step_is_planned, writes_are_newer,
+    an_install_is_worked, entries_settle_alone, install_is_planned, partition_is_planned,
+    plans_are_apart, plans_come_first, report_is_planned, settling_is_planned, step_is_planned,
+    writes_are_newer,
 };
