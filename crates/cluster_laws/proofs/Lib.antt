@@ -1,0 +1,14 @@
+pub mod Lists
+pub mod AtEpoch
+pub mod Epochs
+pub mod Views
+pub mod Linked
+pub mod Members
+pub mod Changes
+pub mod Nodes
+pub mod Cases
+pub mod Steps
+pub mod Counts
+pub mod SoundRows
+pub mod Numbered
+pub mod Moving

@@ -1,0 +1,5 @@
+use Rattle.cluster_laws.proofs.Numbered.{views_are_whole_law}
+use Rattle.cluster_laws.proofs.view_laws.views_are_whole.Goals as goal
+
+pub returns : goal.returns
+returns c = views_are_whole_law
