@@ -1,0 +1,7 @@
+use mathlib.Core.Path.{refl}
+use Rattle.replay_rules.proofs.Opened.{all_rules}
+use Rattle.replay_rules.proofs.bad_inputs.row_of_empty_input.Goals as goal
+
+pub returns : goal.returns
+unfolding all_rules
+returns c = refl

@@ -1,0 +1,13 @@
+pub mod Due
+pub mod Inputs
+pub mod Paths
+pub mod Rights
+pub mod Moves
+pub mod Failures
+pub mod BadInputs
+pub mod Summaries
+pub mod LimitRows
+pub mod Outcome
+pub mod StepTrace
+pub mod RunOfInput
+pub mod Schedule
