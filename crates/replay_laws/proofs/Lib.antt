@@ -1,0 +1,10 @@
+pub mod LineSizes
+pub mod Reading
+pub mod Courses
+pub mod Course
+pub mod Inputs
+pub mod GoodLines
+pub mod BadEnds
+pub mod WholeRuns
+pub mod Outcomes
+pub mod Quiet
