@@ -1,0 +1,4 @@
+pub mod Begun
+pub mod Counts
+pub mod Kept
+pub mod Places
