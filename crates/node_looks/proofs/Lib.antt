@@ -1,0 +1,4 @@
+pub mod Counted
+pub mod Listed
+pub mod Seen
+pub mod Sums
