@@ -1,0 +1,4 @@
+pub mod Carry
+pub mod Planned
+pub mod Released
+pub mod Writes
