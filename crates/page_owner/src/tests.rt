@@ -1,12 +1,15 @@
-ghost use Rattle.std.specs.Prelude.{None};
+ghost use Rattle.std.specs.Prelude.{None, ◌≡◌, ◌<◌, false};
+ghost use Rattle.pcl_base.specs.Limits.{Sizes};
+ghost use Rattle.text_rules.specs.MessageBytes.{IsBody};
+ghost use Rattle.page_owner.specs.Released.{is_report};
 ghost use Rattle.node_parts.specs.State.{AreParts};
 
 use super::*;
 use disk_model::Storage;
 use node_parts::{Outgoing, Outputs, Parts, StepFault};
 use pcl_base::{
-    Body, Change, Config, CopyPart, Failed, Items, Mode, NoMemory, NodeNo, PageNo, Release,
-    Request, ReturnRight, TxId, Version,
+    Body, Change, Config, CopyPart, Failed, Grant, Items, Message, Mode, NoMemory, NodeNo, PageNo,
+    Release, Reply, Request, ReturnRight, TxId, Version,
 };
 use std::alloc::Global;
 use std::rt::HostRuntime;
@@ -231,4 +234,88 @@ fn messages_that_are_taken(rt: HostRuntime) {
         Some((0, 2, 0, None)),
     ];
     assert_eq!(rt; run(rt.alloc(), &config, true), Some((back, 3, 0)));
+}
+
+/// A message about page 2, which is another node's, arrives from node 0.
+fn deliver(
+    parts: &mut Parts,
+    body: Body,
+    disk: &mut Untold,
+    out: &mut Outputs,
+) -> Result<(), StepFault>
+    requires parts { AreParts parts.old }
+    requires body { (c : Sizes) → c.nodes ≡ 2 → 2 < c.pages → IsBody c body }
+    requires other { is_report body ≡ false }
+    ensures { AreParts parts.new }
+{
+    let config = parts.home.config();
+    if config.nodes() != 2 || config.pages() <= 2 {
+        return Err(StepFault::NoMemory);
+    }
+    let message = Message { epoch: 1, body };
+    deliver_other(parts, 0, &message, disk, out)
+}
+
+/// A right for page 2 comes, for which nobody waits, and is revoked.
+fn lent(parts: &mut Parts, disk: &mut Untold, out: &mut Outputs) -> Result<(), StepFault>
+    requires { AreParts parts.old }
+{
+    let grant = Grant {
+        tx: TxId {
+            node: 1,
+            born: 1,
+            serial: 1,
+        },
+        page: 2,
+        mode: Mode::Shared,
+        right: true,
+        version: 5,
+        copy: CopyPart::Current,
+    };
+    deliver(parts, Body::Grant(grant), disk, out)?;
+    deliver(parts, Body::Revoke { page: 2 }, disk, out)
+}
+
+/// To whom a right is given back.
+fn given_back(sent: Option<&Outgoing>) -> Option<NodeNo> {
+    match sent {
+        None => None,
+        Some(sent) => match &sent.message.body {
+            Body::Return(_) => Some(sent.to),
+            _ => None,
+        },
+    }
+}
+
+/// The replies of node 1 to these, and to whom it gives how many rights back.
+fn answers(alloc: Global, config: &Config) -> Option<(bool, usize, Option<NodeNo>)> {
+    if config.nodes() != 2 {
+        return None;
+    }
+    match Parts::first(alloc, config, 1) {
+        Err(_) => None,
+        Ok(parts) => {
+            let mut parts = parts;
+            let mut disk = Untold { writes: 0 };
+            let mut out = Outputs::open(alloc);
+            let done = lent(&mut parts, &mut disk, &mut out);
+            parts.close();
+            if done.is_err() {
+                return None;
+            }
+            let taken = out.replies() == [Reply::Taken, Reply::Taken].as_slice();
+            let to = given_back(out.sends().first());
+            Some((taken, out.sends().len(), to))
+        }
+    }
+}
+
+// A right that comes with a grant is kept, and given back to the node that revokes it.
+#[test]
+fn a_right_comes_and_goes(rt: HostRuntime) {
+    let Ok(config) = Config::new(2, 9, 8, 4) else {
+        assert!(rt; false);
+        return;
+    };
+    assert_eq!(rt; answers(rt.alloc(), &config), Some((true, 1, Some(0))));
 }
