@@ -1,4 +1,4 @@
-ghost use Rattle.std.specs.Prelude.{◌≡◌, ◌≢◌, ℕ, ◌<◌, ◌≤◌, ◌+◌, ◌^◌, List, Option, Some, Ok, Err, IfErr, length};
+ghost use Rattle.std.specs.Prelude.{◌≡◌, ◌≢◌, ℕ, ◌<◌, ◌≤◌, ◌+◌, ◌^◌, List, Option, Some, Ok, Err, IfOk, IfErr, length};
 ghost use Rattle.pcl_base.specs.Faults.{Rose};
 ghost use Rattle.pcl_base.specs.declared.trace.Call.{Call as Kind};
 ghost use Rattle.disk_model.specs.Disk.{HasSizes, told_at, IsIn, HasLength};
@@ -15,7 +15,8 @@ use redo_log::Walk;
 /// How many bytes may be cut from the front of a node's log: the longest run of whole records in
 /// which every page's version is at most the disk's. It walks the log once, and reads the stored
 /// pages in log order into `raw`, up to the first that isn't on disk; `raw` has the length of a
-/// stored page, and its content is free afterwards. It takes no memory and writes nothing.
+/// stored page, and its content is free afterwards. They are within the log. It takes no memory and
+/// writes nothing.
 ///
 /// `Failed` names a kind of call whose count rose. `BadPage` names the first page that was read
 /// whose stored number is neither 0 nor the page's number plus one.
@@ -29,6 +30,7 @@ pub fn cuttable<S: Storage>(
     requires node { node < config.now.nodes }
     requires raw { length raw.old ≡ config.now.size + 16 }
     ensures value { (pages : List (List ℕ)) (log : List ℕ) → S.pages s.old ≡ Some pages → IsLog (S.logs s.old) node log → AnswersCut (may_be_cut config.now pages log) result }
+    ensures within { IfOk result (λ count. (log : List ℕ) → IsLog (S.logs s.old) node log → count ≤ length log) }
     ensures fault { IfErr result IsCutFault }
     ensures pages { S.pages s.new ≡ S.pages s.old }
     ensures logs { S.logs s.new ≡ S.logs s.old }

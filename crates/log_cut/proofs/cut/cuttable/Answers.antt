@@ -1,4 +1,4 @@
-use Rattle.std.proofs.Common.{◌≡◌, refl, sym, ap, subst, ◌∙◌, ℕ, ◌*◌, length, Some, None, Err, arith}
+use Rattle.std.proofs.Common.{◌≡◌, refl, sym, ap, subst, ◌∙◌, ℕ, ◌*◌, ◌≤◌, length, Some, None, Err, arith}
 use Rattle.disk_model.specs.Disk.{told_at, HasLength}
 use Rattle.node_rules.specs.Work.{Outcome, Goes}
 use Rattle.redo_log.specs.Told.{IsLog}
@@ -6,6 +6,7 @@ use Rattle.redo_log.specs.Walks.{node_of, to_come, first_seen}
 use Rattle.redo_log.proofs.Rising.{RisesFrom, rises_lower, placed_rises, rise_step}
 use Rattle.log_cut.specs.Cutting.{cut_if, cut_from}
 use Rattle.log_cut.proofs.CuttingLemmas.{cut_of_log, cut_next, cut_ended, cut_faulted, page_is_long, sizes_kept, err_same}
+use Rattle.log_cut.proofs.WithinLemmas.{EndBy, log_ends_of, next_ends}
 use Rattle.log_cut.proofs.cut.cuttable.Goals as goal
 
 pub loop-init : goal.loop-init
@@ -26,6 +27,10 @@ loop-init g c = record {
       ∙ ap (cut_from pages 0) (c.open-walk.ensures.all log)
       ∙ cut_of_log c.args.config.now pages log;
   rises = λ log told. subst (RisesFrom (2 * 0)) (sym (c.open-walk.ensures.all log)) (rises_lower (2 * 0) 0 _ (omega arith) (placed_rises c.args.config.now log));
+  within = λ log told. (
+    subst (λ k. k ≤ length log) (sym (ap (λ w. w.whole) c.open-walk.ensures.value)) (omega arith),
+    subst (EndBy (length log)) (sym (c.open-walk.ensures.all log)) (log_ends_of c.args.config.now log),
+  );
   few = λ log told. omega arith;
 }
 
@@ -106,6 +111,13 @@ loop-preserved g c = record {
       let now : told_at (g.S.Storage.logs c.loop.s) c.loop.walk.reading.node ≡ Some log = rw (c.loop.invariant.logs, c.loop.invariant.own) told in
       let found : Some c.in-Ok-Some.seen ≡ first_seen (to_come c.loop.walk log) = sym c.in-Ok-Some.field-0-is ∙ c.in-Ok-Some.ensures.value log now in
       (rise_step c.loop.counter _ _ c.in-Ok-Some.seen found (c.in-Ok-Some.ensures.rest log now) (c.loop.invariant.rises log told)).1;
+  within = λ log told.
+      let now : told_at (g.S.Storage.logs c.loop.s) c.loop.walk.reading.node ≡ Some log = rw (c.loop.invariant.logs, c.loop.invariant.own) told in
+      let found : Some c.in-Ok-Some.seen ≡ first_seen (to_come c.loop.walk log) = sym c.in-Ok-Some.field-0-is ∙ c.in-Ok-Some.ensures.value log now in
+      let next = next_ends (length log) c.loop.walk.whole (to_come c.loop.walk log) c.in-Ok-Some.seen found (c.loop.invariant.within log told).1 in (
+        subst (λ k. k ≤ length log) (sym (c.in-Ok-Some.ensures.whole log now)) next.0,
+        subst (EndBy (length log)) (sym (c.in-Ok-Some.ensures.rest log now)) next.1,
+      );
   few = λ log told.
       let now : told_at (g.S.Storage.logs c.loop.s) c.loop.walk.reading.node ≡ Some log = rw (c.loop.invariant.logs, c.loop.invariant.own) told in
       let found : Some c.in-Ok-Some.seen ≡ first_seen (to_come c.loop.walk log) = sym c.in-Ok-Some.field-0-is ∙ c.in-Ok-Some.ensures.value log now in

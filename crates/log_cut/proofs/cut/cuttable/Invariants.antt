@@ -6,6 +6,7 @@ use Rattle.redo_log.specs.Told.{IsLog, NoneFails}
 use Rattle.redo_log.specs.Walks.{Stands, node_of, to_come}
 use Rattle.redo_log.proofs.Rising.{RisesFrom}
 use Rattle.log_cut.specs.Cutting.{cut_from}
+use Rattle.log_cut.proofs.WithinLemmas.{EndBy}
 use Rattle.log_cut.proofs.cut.cuttable.Given as goal
 
 -- the pages that are to come decide what may be cut
@@ -24,5 +25,6 @@ invariant-loop g l = record {
   stands : (log : List ℕ) → IsLog (g.S.Storage.logs l.fn.s) l.node log → Stands l.walk log;
   cut : (pages : List (List ℕ)) (log : List ℕ) → g.S.Storage.pages l.fn.s ≡ Some pages → IsLog (g.S.Storage.logs l.fn.s) l.node log → cut_from pages l.walk.whole (to_come l.walk log) ≡ cuttable l.config pages log;
   rises : (log : List ℕ) → IsLog (g.S.Storage.logs l.fn.s) l.node log → RisesFrom (2 * l.counter) (to_come l.walk log);
+  within : (log : List ℕ) → IsLog (g.S.Storage.logs l.fn.s) l.node log → (l.walk.whole ≤ length log) × EndBy (length log) (to_come l.walk log);
   few : (log : List ℕ) → IsLog (g.S.Storage.logs l.fn.s) l.node log → 2 * l.counter < 2 ^ 64 + 2;
 }
