@@ -1,5 +1,6 @@
 -- The length that may be cut of a log, page by page of its whole records.
 use Rattle.std.specs.Prelude.{◌≡◌, ◌≢◌, ℕ, ◌+◌, nat_le, Bool, true, false, List, [], ◌∷◌, Result, Ok, Err, ⊤}
+use Rattle.pcl_base.specs.declared.trace.Call.TheVariants as call
 use Rattle.page_store.specs.declared.fault.RedoFault.{RedoFault}
 use Rattle.page_store.specs.declared.fault.RedoFault.TheVariants.{Failed, BadPage, NoMemory}
 use Rattle.node_rules.specs.Work.{Outcome, Goes, Differs, and_then, read_page}
@@ -34,8 +35,11 @@ AnswersStep pages page version (Err (Failed k)) = ⊤
 AnswersStep pages page version (Err (BadPage p expected found)) = (whole : ℕ) (further : Outcome ℕ) → cut_step pages page version whole further ≡ Differs p expected found
 AnswersStep pages page version (Err NoMemory) = ⊤
 
--- a fault names a page below P with another number than it must have, and it is no want of memory
+-- a page or the log couldn't be read, or a page has another number than it must have; it is no want of
+-- memory
 abbrev pub IsCutFault : RedoFault → Type 0
-IsCutFault (Failed k) = ⊤
+IsCutFault (Failed call.Read) = ⊤
+IsCutFault (Failed call.Log) = ⊤
+IsCutFault (Failed k) = ⊥
 IsCutFault (BadPage page expected found) = (expected ≡ page + 1) × (found ≢ expected)
 IsCutFault NoMemory = ⊥

@@ -18,7 +18,7 @@ use redo_log::Walk;
 /// stored page, and its content is free afterwards. They are within the log. It takes no memory and
 /// writes nothing.
 ///
-/// `Failed` names a kind of call whose count rose. `BadPage` names the first page that was read
+/// `Failed` names the call, a read of a page or of the log, whose count rose. `BadPage` names the first page that was read
 /// whose stored number is neither 0 nor the page's number plus one.
 pub fn cuttable<S: Storage>(
     s: &mut S,
