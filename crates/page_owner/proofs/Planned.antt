@@ -15,7 +15,7 @@ use Rattle.node_parts.specs.Comes.{work_of}
 use Rattle.node_parts.specs.Outputs.{OutputsView}
 use Rattle.node_parts.specs.State.{PartsView, IsNode, IsViewAt, AreParts, node_of, owns}
 use Rattle.node_parts.specs.Tables.{TablesView, lock_tables, place_at, table_for, made_at, with_entry_at, AreTidyBut}
-use Rattle.page_owner.specs.Planned.{HasMade}
+use Rattle.page_owner.specs.Planned.{ArePartsBut, HasMade, MayEnter}
 
 -- the rules' table of a page is that in its place
 pub table_of_page : (v : PartsView) (p : ℕ) → v.tables.config ≡ v.home.config → table_of (node_of v) p ≡ option_map seen (table_for v.tables p)
@@ -76,11 +76,18 @@ has_made v p tables is same config made tidy = record {
   tidy = tidy;
 }
 
+-- what was made of a page may be entered, among others or alone
+pub may_enter : (p : ℕ) (v : PartsView) → HasMade p v → MayEnter p v
+may_enter p v had = record { node = had.node; number = had.number; config = had.config; made = had.made }
+
+pub all_tidy : (v : PartsView) → ArePartsBut [] v → AreParts v
+all_tidy v is = record { node = is.node; number = is.number; config = is.config; tidy = is.tidy }
+
 -- the parts with the entry put in, and with a later home
-pub entered_parts : (v : PartsView) (p : ℕ) (e : LockEntry) (tables : TablesView) (h : HomeState) → HasMade p v → SameNode v.home h
-    → lock_tables tables.places ≡ with_entry_at (lock_tables v.tables.places) (p % v.tables.config.nodes) p e → tables.config ≡ v.tables.config → AreTidyBut [] tables
-    → AreParts (record v { home = h; tables = tables })
-entered_parts v p e tables h had same put config tidy = record {
+pub entered_among : (v : PartsView) (p : ℕ) (e : LockEntry) (tables : TablesView) (h : HomeState) (ps : List ℕ) → MayEnter p v → SameNode v.home h
+    → lock_tables tables.places ≡ with_entry_at (lock_tables v.tables.places) (p % v.tables.config.nodes) p e → tables.config ≡ v.tables.config → AreTidyBut ps tables
+    → ArePartsBut ps (record v { home = h; tables = tables })
+entered_among v p e tables h ps had same put config tidy = record {
   node = entered_node v p e tables had.config put h had.node same;
   number = had.number ∙ sym same.node;
   config = config ∙ had.config ∙ sym same.config;

@@ -1,5 +1,5 @@
 -- What carrying decisions out needs, uses and answers.
-use Rattle.std.specs.Prelude.{◌≡◌, ⊤, ℕ, ◌≤◌, ◌+◌, List, Option, Some, None, Result, Err}
+use Rattle.std.specs.Prelude.{◌≡◌, ◌≢◌, ⊤, ℕ, ◌≤◌, ◌+◌, List, Option, Some, None, Result, Err}
 use Rattle.pcl_base.specs.declared.trace.Call.{Call}
 use Rattle.pcl_base.specs.declared.trace.Call.TheVariants.{Read}
 use Rattle.node_rules.specs.DiskCalls.{DiskCall}
@@ -30,6 +30,13 @@ pub record UsesOne (stock later : StockView) (out after : OutputsView) : Type 0 
   pub replies : out.reply_room ≤ after.reply_room + 1
   pub sends : out.send_room ≤ after.send_room + 1
 
+-- so many decisions used at most that many images, replies and messages
+pub record UsesMany (count : ℕ) (stock later : StockView) (out after : OutputsView) : Type 0 where
+  pub size : later.size ≡ stock.size
+  pub images : stock.count ≤ later.count + count
+  pub replies : out.reply_room ≤ after.reply_room + count
+  pub sends : out.send_room ≤ after.send_room + count
+
 -- a later home is of the same node and birth, and of the same configuration
 pub record SameNode (old new : HomeState) : Type 0 where
   pub config : new.config ≡ old.config
@@ -42,10 +49,10 @@ fault_of (home.Failed call kept) = step.Halted call None
 fault_of (home.Differs p expected found) = step.Differs p expected found
 fault_of _ = step.NoMemory
 
--- a page couldn't be read, or differs
+-- a page couldn't be read, or has another number or version than it must
 abbrev pub IsReadHalt : StepFault → Type 0
 IsReadHalt (step.Halted call kept) = (call ≡ Read) × (kept ≡ None)
-IsReadHalt (step.Differs p expected found) = ⊤
+IsReadHalt (step.Differs p expected found) = found ≢ expected
 IsReadHalt step.NoMemory = ⊥
 
 -- a page couldn't be read, or differs, or memory is wanting

@@ -1,5 +1,5 @@
 -- What a node plans for one of its own pages, and what it needs to put the plan in.
-use Rattle.std.specs.Prelude.{◌≡◌, ⊤, ℕ, [], ◌∷◌, Option, Some, None, IsSome}
+use Rattle.std.specs.Prelude.{◌≡◌, ⊤, ℕ, List, [], ◌∷◌, Option, Some, None, IsSome}
 use Rattle.node_rules.specs.LockRule.{Settled}
 use Rattle.node_rules.specs.LockTable.{LockTable}
 use Rattle.node_rules.specs.NodeState.{number_of}
@@ -21,6 +21,27 @@ IsPlanFor None plan None = ⊤
 IsPlanFor None plan (Some o) = ⊥
 IsPlanFor (Some t) plan None = ⊥
 IsPlanFor (Some t) plan (Some o) = plan_of o ≡ plan t
+
+-- the parts of a node within a step: what holds of every node, but that the entries of some pages, for
+-- which there is room, may have empty lists
+pub record ArePartsBut (pages : List ℕ) (v : PartsView) : Type 0 where
+  pub node : IsNode (node_of v)
+  pub number : v.me ≡ number_of (node_of v)
+  pub config : v.tables.config ≡ v.home.config
+  pub tidy : AreTidyBut pages v.tables
+
+-- the node's number, epoch and view are the same
+pub record SameView (old new : PartsView) : Type 0 where
+  pub me : new.me ≡ old.me
+  pub epoch : new.epoch ≡ old.epoch
+  pub view : new.view ≡ old.view
+
+-- the parts of a node with room for the entry of a page, among some pages whose entries may have empty lists
+pub record MayEnter (page : ℕ) (v : PartsView) : Type 0 where
+  pub node : IsNode (node_of v)
+  pub number : v.me ≡ number_of (node_of v)
+  pub config : v.tables.config ≡ v.home.config
+  pub made : IsSome (made_at v.tables page)
 
 -- the parts of a node with room for the entry of a page: no other entry has empty lists
 pub record HasMade (page : ℕ) (v : PartsView) : Type 0 where

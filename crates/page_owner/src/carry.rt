@@ -1,4 +1,4 @@
-ghost use Rattle.std.specs.Prelude.{◌≡◌, ◌≤◌, ◌<◌, ◌+◌, ◌++◌, ◌∷◌, [], ℕ, Bool, true, List, Option, Some, None, length, IfErr, OnErr, Err};
+ghost use Rattle.std.specs.Prelude.{◌≡◌, ◌≤◌, ◌<◌, ◌+◌, ◌++◌, ◌∷◌, [], ℕ, Bool, true, List, Option, Some, None, length, IfErr, OnOk, OnErr, Err};
 ghost use Rattle.pcl_base.specs.Faults.{Rose};
 ghost use Rattle.pcl_base.specs.declared.trace.Call.{Call as CallKind};
 ghost use Rattle.disk_model.specs.Disk.{HasSizes};
@@ -10,7 +10,7 @@ ghost use Rattle.node_rules.specs.NodeState.{NodeState};
 ghost use Rattle.node_rules.specs.DiskCalls.{DiskCall};
 ghost use Rattle.node_rules.specs.Work.{for_each};
 ghost use Rattle.node_rules.specs.OwnerRule.{copy_part, grant_own, carry_out};
-ghost use Rattle.page_owner.specs.Carry.{HasMemory, UsesOne, SameNode, work_with, halted_by, fault_of, IsReadHalt};
+ghost use Rattle.page_owner.specs.Carry.{HasMemory, UsesOne, UsesMany, SameNode, work_with, halted_by, fault_of, IsReadHalt};
 ghost use Rattle.node_parts.specs.Comes.{Comes};
 ghost use Rattle.home.specs.Grants.{IsReadFault};
 
@@ -196,6 +196,7 @@ pub fn carry_all<S: Storage>(
     requires size { home.old.config.size ≤ stock.old.size }
     ensures told { (n : NodeState) (ps : List (List ℕ)) (cs : List DiskCall) → n.epoch ≡ at.epoch → S.pages s.old ≡ Some ps → Comes (for_each (carry_out at.page at.version) decisions.now (work_with n home.old ps cs out.old)) result (work_with n home.new ps cs out.new) }
     ensures same { SameNode home.old home.new }
+    ensures used { OnOk result (UsesMany (length decisions.now) stock.old stock.new out.old out.new) }
     ensures fault { IfErr result IsReadHalt }
     ensures pages { S.pages s.new ≡ S.pages s.old }
     ensures logs { S.logs s.new ≡ S.logs s.old }

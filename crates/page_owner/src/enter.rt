@@ -1,4 +1,4 @@
-ghost use Rattle.std.specs.Prelude.{◌≡◌, ◌≤◌, ◌<◌, ◌+◌, ◌++◌, ◌∷◌, [], ℕ, List, Option, Some, None, length, IsSome, IfOk, OnOk, OnErr, IfErr, Err};
+ghost use Rattle.std.specs.Prelude.{◌≡◌, ◌≢◌, ◌≤◌, ◌<◌, ◌+◌, ◌%◌, ◌++◌, ◌∷◌, [], ℕ, List, Option, Some, None, length, IsSome, IfOk, OnOk, OnErr, IfErr, Err};
 ghost use Rattle.pcl_base.specs.Faults.{Rose};
 ghost use Rattle.pcl_base.specs.declared.trace.Call.{Call as CallKind};
 ghost use Rattle.disk_model.specs.Disk.{HasSizes};
@@ -7,12 +7,12 @@ ghost use Rattle.node_rules.specs.LockTable.{LockTable};
 ghost use Rattle.node_rules.specs.NodeState.{table_of};
 ghost use Rattle.node_rules.specs.DiskCalls.{DiskCall};
 ghost use Rattle.node_rules.specs.OwnerRule.{carry_all};
-ghost use Rattle.page_owner.specs.Carry.{HasMemory, SameNode, halted_by, IsReadHalt};
+ghost use Rattle.page_owner.specs.Carry.{HasMemory, UsesMany, SameNode, halted_by, IsReadHalt};
 ghost use Rattle.node_parts.specs.Comes.{Comes, work_of};
 ghost use Rattle.node_parts.specs.Outputs.{OutputsView};
-ghost use Rattle.page_owner.specs.Planned.{HasMade, settled_of};
+ghost use Rattle.page_owner.specs.Planned.{ArePartsBut, HasMade, MayEnter, SameView, settled_of};
 ghost use Rattle.node_parts.specs.State.{AreParts, node_of};
-ghost use Rattle.node_parts.specs.Tables.{table_for};
+ghost use Rattle.node_parts.specs.Tables.{AreTidyBut, lock_tables, made_at, table_for, with_entry_at};
 
 use crate::carry::{OwnPage, carry_all};
 use authority::Outcome;
@@ -72,6 +72,42 @@ pub fn enter_planned<S: Storage>(
     ensures comes { (t : LockTable) (ps : List (List ℕ)) (cs : List DiskCall) → table_of (node_of parts.old) page ≡ Some t → S.pages s.old ≡ Some ps → Comes (carry_all page t (settled_of planned) (work_of (node_of parts.old) ps cs out.old)) result (work_of (node_of parts.new) ps cs out.new) }
     ensures parts { AreParts parts.new }
     ensures same { SameNode parts.old.home parts.new.home }
+    ensures used { OnOk result (UsesMany (length planned.decisions.items) stock.old stock.new out.old out.new) }
+    ensures fault { IfErr result IsReadHalt }
+    ensures pages { S.pages s.new ≡ S.pages s.old }
+    ensures logs { S.logs s.new ≡ S.logs s.old }
+    ensures rooms { S.rooms s.new ≡ S.rooms s.old }
+    ensures stops { S.stops s.new ≡ S.stops s.old }
+    ensures calm { (l : List (Option ℕ)) → NoneFails (S.failing s.old) parts.old.me l → NoneFails (S.failing s.new) parts.old.me l }
+    ensures quiet { (l : List (Option ℕ)) → NoneFails (S.failing s.old) parts.old.me l → halted_by result ≡ None }
+    ensures counts { (k : CallKind) → S.faults s.old k ≤ S.faults s.new k }
+    ensures cause { (k : CallKind) → halted_by result ≡ Some k → Rose (S.faults s.old k) (S.faults s.new k) }
+{
+    enter_among(parts, page, planned, stock, s, out)
+}
+
+/// The same among some pages with room for their entries, which are put in one after the other: what
+/// is planned for the others stays, and so does the room for it. It takes no memory.
+pub fn enter_among<S: Storage>(
+    parts: &mut Parts,
+    page: PageNo,
+    planned: Outcome,
+    stock: &mut Stock,
+    s: &mut S,
+    out: &mut Outputs,
+) -> Result<(), StepFault>
+    requires made { MayEnter page parts.old }
+    requires page { page < parts.old.home.config.pages }
+    requires sizes { HasSizes parts.old.home.config (S.pages s.old) (S.logs s.old) (S.rooms s.old) }
+    requires memory { HasMemory (length planned.decisions.items) stock.old out.old }
+    requires size { parts.old.home.config.size ≤ stock.old.size }
+    ensures comes { (t : LockTable) (ps : List (List ℕ)) (cs : List DiskCall) → table_of (node_of parts.old) page ≡ Some t → S.pages s.old ≡ Some ps → Comes (carry_all page t (settled_of planned) (work_of (node_of parts.old) ps cs out.old)) result (work_of (node_of parts.new) ps cs out.new) }
+    ensures parts { (ps : List ℕ) → AreTidyBut (page ∷ ps) parts.old.tables → ArePartsBut ps parts.new }
+    ensures tables { lock_tables parts.new.tables.places ≡ with_entry_at (lock_tables parts.old.tables.places) (page % parts.old.tables.config.nodes) page planned.entry }
+    ensures others { (p : ℕ) → p ≢ page → made_at parts.new.tables p ≡ made_at parts.old.tables p }
+    ensures view { SameView parts.old parts.new }
+    ensures same { SameNode parts.old.home parts.new.home }
+    ensures used { OnOk result (UsesMany (length planned.decisions.items) stock.old stock.new out.old out.new) }
     ensures fault { IfErr result IsReadHalt }
     ensures pages { S.pages s.new ≡ S.pages s.old }
     ensures logs { S.logs s.new ≡ S.logs s.old }

@@ -16,7 +16,7 @@ mod tests;
 pub use arrive::{take_grant, take_revoke};
 pub use carry::{OwnPage, carry_all};
 pub use deliver::{deliver_other, judge, work_off};
-pub use enter::{enter_planned, prepare};
+pub use enter::{enter_among, enter_planned, prepare};
 pub use plans::{plan_release, plan_request, plan_return};
 pub use release::take_release;
 pub use take::{take_none, take_request, take_return};

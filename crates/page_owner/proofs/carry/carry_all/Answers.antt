@@ -37,6 +37,12 @@ loop-decision-preserved g c =
       counts = λ k. let a = e.counts k in let b = l.invariant.counts k in omega (arith, a, b);
       size = used.size ∙ l.invariant.size;
       memory = record { images = omega (arith, i, mi); replies = omega (arith, r, mr); sends = omega (arith, s, ms) };
+      within = let inside = c.loop-decision-test.true in omega (arith, inside);
+      used = let before = l.invariant.used in
+          let bi = before.images in
+          let br = before.replies in
+          let bs = before.sends in
+          record { size = used.size ∙ before.size; images = omega (arith, i, bi); replies = omega (arith, r, br); sends = omega (arith, s, bs) };
       rest = λ n ps cs epoch told.
           each_step (carry_out c.args.at.page c.args.at.version) c.args.decisions.now l.decision-index
           (work_with n c.args.home.now ps cs c.args.out.now) (work_with n l.home ps cs l.out) (work_with n c.carry.new.home ps cs c.carry.new.out)

@@ -1,10 +1,10 @@
-use Rattle.std.proofs.Common.{◌≡◌, ◌≤◌, ◌-◌, ℕ, List, Option, Some, drop}
+use Rattle.std.proofs.Common.{◌≡◌, ◌≤◌, ◌-◌, ℕ, List, Option, Some, length, drop}
 use Rattle.pcl_base.specs.declared.trace.Call.{Call}
 use Rattle.node_rules.specs.NodeState.{NodeState}
 use Rattle.node_rules.specs.DiskCalls.{DiskCall}
 use Rattle.node_rules.specs.Work.{for_each}
 use Rattle.node_rules.specs.OwnerRule.{carry_out}
-use Rattle.page_owner.specs.Carry.{HasMemory, SameNode, work_with}
+use Rattle.page_owner.specs.Carry.{HasMemory, SameNode, UsesMany, work_with}
 use Rattle.redo_log.specs.Told.{NoneFails}
 use Rattle.page_owner.proofs.carry.carry_all.Given as goal
 
@@ -19,6 +19,8 @@ invariant-loop-decision g l = record {
   counts : (k : Call) → g.S.Storage.faults l.fn.s k ≤ g.S.Storage.faults l.s k;
   size : l.stock.size ≡ l.fn.stock.size;
   memory : HasMemory (l.decision-index-end - l.decision-index) l.stock l.out;
+  within : l.decision-index ≤ length l.decisions;
+  used : UsesMany l.decision-index l.fn.stock l.stock l.fn.out l.out;
   rest : (n : NodeState) (ps : List (List ℕ)) (cs : List DiskCall) → n.epoch ≡ l.fn.at.epoch → g.S.Storage.pages l.fn.s ≡ Some ps
       → for_each (carry_out l.fn.at.page l.fn.at.version) (drop l.decision-index l.decisions) (work_with n l.home ps cs l.out)
       ≡ for_each (carry_out l.fn.at.page l.fn.at.version) l.decisions (work_with n l.fn.home ps cs l.fn.out);
