@@ -1,0 +1,4 @@
+pub mod Sends
+pub mod Installs
+pub mod Messages
+pub mod Steps
