@@ -1,0 +1,5 @@
+pub mod Entries
+pub mod Calls
+pub mod Stops
+pub mod ReadPages
+pub mod Redos

@@ -1,0 +1,4 @@
+pub mod Looks
+pub mod Stored
+pub mod Redone
+pub mod Rows
