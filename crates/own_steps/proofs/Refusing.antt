@@ -1,0 +1,49 @@
+-- What an event has that the rules don't refuse.
+use Rattle.std.proofs.Common.{◌≡◌, ℕ, ◌<◌, ◌==◌, not, nat_le, Bool, true, false, length, Option, None, is_some, refl, arith}
+use Rattle.std.proofs.lemmas.Bool.Decides.{nat_tests}
+use Rattle.pcl_base.specs.declared.reply.Reason.{Reason}
+use Rattle.pcl_base.specs.declared.reply.Reason.TheVariants as reason
+use Rattle.node_rules.specs.NodeState.{NodeState, Begin, Evict, Flush, is_serving, table_of}
+use Rattle.node_rules.specs.Refusals.{refuse_if, refusal, refusal_in_view, no_copy}
+use Rattle.home.specs.Answers.{evict_refusal, flush_refusal}
+
+pub not_refused : (c : Bool) (r : Reason) (further : Option Reason) → refuse_if c r further ≡ None → (c ≡ false) × (further ≡ None)
+not_refused true r further e = absurd (cc)
+not_refused false r further e = (refl, e)
+
+is_true : (b : Bool) → not b ≡ false → b ≡ true
+is_true true e = refl
+is_true false e = absurd (cc)
+
+-- a transaction can begin: the node has a view, and there is a serial
+pub begin_view : (n : NodeState) → refusal n Begin ≡ None → is_some n.view ≡ true
+unfolding refusal
+begin_view n none = is_true (is_some n.view) (not_refused (not (is_some n.view)) reason.NotInView (refusal_in_view n Begin) none).0
+
+begin_rest : (n : NodeState) → refusal n Begin ≡ None → ((n.home.txs.last == 4294967295) ≡ false) × (nat_le 1024 (length n.home.txs.txs) ≡ false)
+unfolding refusal
+begin_rest n none =
+    let first = (not_refused (not (is_some n.view)) reason.NotInView (refusal_in_view n Begin) none).1 in
+    let many = nat_le 1024 (length n.home.txs.txs) in
+    let second = not_refused (n.home.txs.last == 4294967295) reason.SerialEnd (refuse_if many reason.TooMany None) first in
+    (second.0, (not_refused many reason.TooMany None second.1).0)
+
+pub begin_serial : (n : NodeState) → refusal n Begin ≡ None → n.home.txs.last ≡ 4294967295 → ⊥
+begin_serial n none last = let e = (begin_rest n none).0 in grind (arith, nat_tests)
+
+pub begin_few : (n : NodeState) → refusal n Begin ≡ None → length n.home.txs.txs < 1024
+begin_few n none = let e = (begin_rest n none).1 in grind (arith, nat_tests)
+
+-- a copy can leave, or can be written
+pub evict_allowed : (n : NodeState) (p : ℕ) → refusal n (Evict p) ≡ None → evict_refusal p n.home ≡ None
+unfolding refusal
+evict_allowed n p none = (not_refused (not (is_some n.view)) reason.NotInView (evict_refusal p n.home) none).1
+
+pub flush_allowed : (n : NodeState) (p : ℕ) → refusal n (Flush p) ≡ None → flush_refusal p n.home ≡ None
+unfolding refusal
+flush_allowed n p none =
+    let first = (not_refused (not (is_some n.view)) reason.NotInView (refusal_in_view n (Flush p)) none).1 in
+    let serves = refuse_if (not (is_serving (table_of n p))) reason.NotOwner None in
+    let second = not_refused (nat_le n.home.config.pages p) reason.NoPage (refuse_if (no_copy n p) reason.NoCopy serves) first in
+    let third = not_refused (no_copy n p) reason.NoCopy serves second.1 in
+    λ i. refuse_if (second.0 i) reason.NoPage (refuse_if (third.0 i) reason.NoCopy None)
