@@ -1,0 +1,5 @@
+pub mod Nexts
+pub mod Epochs
+pub mod Ages
+pub mod Lives
+pub mod Counted

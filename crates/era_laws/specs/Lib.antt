@@ -1,0 +1,5 @@
+pub mod Eras
+pub mod Counts
+pub mod EraLaws
+pub mod CountLaws
+pub mod EraRows
