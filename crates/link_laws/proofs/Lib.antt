@@ -1,0 +1,6 @@
+pub mod Ordered
+pub mod Linked
+pub mod Heads
+pub mod Stepped
+pub mod Nodes
+pub mod Come

@@ -1,0 +1,5 @@
+pub mod Coming
+pub mod LinkLaws
+pub mod StepLaws
+pub mod Orders
+pub mod LinkRows
