@@ -1,0 +1,4 @@
+pub mod Entries
+pub mod ByPage
+pub mod Growing
+pub mod Committing

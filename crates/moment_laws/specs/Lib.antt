@@ -1,0 +1,4 @@
+pub mod Looks
+pub mod Adds
+pub mod Tells
+pub mod Commit
