@@ -1,0 +1,9 @@
+pub mod Words
+pub mod Marked
+pub mod Decided
+pub mod Looked
+pub mod Writers
+pub mod Tabled
+pub mod Gathered
+pub mod Stepped
+pub mod Rowed

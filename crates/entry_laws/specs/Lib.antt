@@ -1,0 +1,5 @@
+pub mod Decisions
+pub mod Looks
+pub mod Rows
+pub mod Steps
+pub mod Tables
