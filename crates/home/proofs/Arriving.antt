@@ -1,5 +1,5 @@
 -- What a grant that arrives comes to: the rights change beside what its access does.
-use Rattle.std.proofs.Common.{◌≡◌, ℕ, ◌+◌, ◌≤◌, ◌==◌, not, ◌&&◌, Bool, true, false, List, [], ◌∷◌, ◌++◌, length, replicate, Option, Some, None, is_some, IfSome, Result, Ok, Err, refl, ap, sym, subst, ◌∙◌, arith}
+use Rattle.std.proofs.Common.{◌≡◌, ℕ, ◌+◌, ◌≤◌, ◌==◌, Bool, true, false, List, [], ◌∷◌, ◌++◌, length, replicate, Option, Some, None, is_some, IfSome, Result, Ok, Err, refl, ap, sym, subst, ◌∙◌, arith}
 use Rattle.std.proofs.lemmas.List.{length-replicate}
 use Rattle.std.specs.Prelude.{OnOk, IfOk, OnErr, IfErr, IsErrAnd}
 use Rattle.pcl_base.specs.declared.tx.TxId.{TxId}
@@ -9,7 +9,7 @@ use Rattle.pcl_base.specs.declared.message.Grant.{Grant}
 use Rattle.pcl_base.specs.declared.reply.Reply.{Reply}
 use Rattle.text_rules.specs.StoredPage.{PageAt}
 use Rattle.node_rules.specs.Words.{pick}
-use Rattle.node_rules.specs.OpenTxs.{pending_of, waits_as}
+use Rattle.node_rules.specs.OpenTxs.{pending_of}
 use Rattle.node_rules.specs.Shelf.{Right, right_on, accept}
 use Rattle.node_rules.specs.BufferRule.{find, install}
 use Rattle.node_rules.specs.CopyRule.{is_version}
@@ -22,8 +22,8 @@ use Rattle.home_laws.proofs.Arrived.{lock_of, on_grant_sound}
 use Rattle.home.specs.declared.fault.HomeFault.{HomeFault}
 use Rattle.home.specs.declared.fault.HomeFault.TheVariants as fault
 use Rattle.home.specs.Device.{work_on}
-use Rattle.home.specs.Parts.{PartsView, HasMemory, IsPrepared}
-use Rattle.home.specs.Grants.{work_at, Tells, outcome, arrival, StandsFor, ByImage, part_of, with_shelf, is_awaited, IsReadFault, IsGrantFault}
+use Rattle.home.specs.Parts.{PartsView, IsPrepared}
+use Rattle.home.specs.Grants.{Tells, outcome, arrival, StandsFor, ByImage, part_of, with_shelf, is_awaited, IsReadFault, IsGrantFault}
 
 -- the work with other rights
 abbrev moved : List Right → HomeWork → HomeWork

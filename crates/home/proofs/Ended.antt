@@ -1,27 +1,26 @@
 -- What a grant that is waited for needs and leaves.
-use Rattle.std.proofs.Common.{◌≡◌, ℕ, ◌+◌, ◌<◌, ◌≤◌, ◌==◌, Bool, true, false, List, [], length, Option, Some, None, is_some, IfSome, Result, Ok, Err, refl, ap, sym, subst, ◌∙◌, arith}
+use Rattle.std.proofs.Common.{◌≡◌, ℕ, ◌+◌, ◌≤◌, true, false, List, [], length, Option, Some, None, is_some, IfSome, Result, Ok, Err, refl, ap, sym, subst, ◌∙◌, arith}
 use Rattle.std.specs.Prelude.{OnOk, IfOk, OnErr}
 use Rattle.pcl_base.specs.declared.tx.TxId.{TxId}
 use Rattle.pcl_base.specs.declared.lock.Held.{Held}
-use Rattle.pcl_base.specs.declared.lock.Kind.TheVariants as kind
 use Rattle.pcl_base.specs.declared.reply.Reply.{Reply}
-use Rattle.node_rules.specs.OpenTxs.{held_by, pending_of, waits_as, waits_on, add}
-use Rattle.node_rules.specs.BufferRule.{Pool, install, find, copy_at, has_slot}
+use Rattle.node_rules.specs.OpenTxs.{held_by, pending_of, waits_as, add}
+use Rattle.node_rules.specs.BufferRule.{install, find, has_slot}
 use Rattle.node_rules.specs.CopyRule.{is_version}
 use Rattle.node_rules.specs.NodeState.{HomeState, runs_at}
-use Rattle.node_rules.specs.Work.{HomeWork, Outcome, Goes, Differs, and_so, with_pool}
+use Rattle.node_rules.specs.Work.{HomeWork, Outcome, Goes, Differs, with_pool}
 use Rattle.node_rules.specs.AccessRule.{Granted, bring, clean_copy, perform, locked, write_of, granted}
 use Rattle.tx_table.specs.Counts.{wait_count}
-use Rattle.home_laws.specs.Homes.{IsHome, AreWrittenRuns, is_exclusive_lock, is_right_kind}
+use Rattle.home_laws.specs.Homes.{IsHome, AreWrittenRuns, is_right_kind}
 use Rattle.home_laws.proofs.Brought.{HasBrought, bring_is}
 use Rattle.home_laws.proofs.Covering.{uncovered_exclusive}
 use Rattle.home_laws.proofs.Granted.{awaited, granted_sound}
-use Rattle.home_laws.proofs.GrantNeeds.{granted_page, granted_slot, granted_waits, granted_may_do}
+use Rattle.home_laws.proofs.GrantNeeds.{granted_waits, granted_may_do}
 use Rattle.home_laws.proofs.Waits.{granted_waits_less}
 use Rattle.home.specs.declared.fault.HomeFault.{HomeFault}
 use Rattle.home.specs.Device.{work_on}
-use Rattle.home.specs.Grants.{PutsBytes, brought, outcome, StandsFor, ByImage, MayEnd}
-use Rattle.home.specs.Parts.{PartsView, HasMemory, IsPrepared}
+use Rattle.home.specs.Grants.{PutsBytes, brought, outcome, ByImage, MayEnd}
+use Rattle.home.specs.Parts.{PartsView, IsPrepared}
 use Rattle.home.proofs.Granting.{bring_current, bring_image}
 
 -- the image that stands for the content: the given one, or some bytes that were read
@@ -147,6 +146,16 @@ locked_shelf t l (Some w) h = refl
 pub ended_shelf : (t : TxId) (l : Held) (write : Option (ℕ × List ℕ)) (old new end : PartsView) → new ≡ record old { home = with_pool old.home new.home.pool }
     → end.home ≡ (locked t l write (work_on new.home)).work.home → end.home.shelf ≡ old.home.shelf
 ended_shelf t l write old new end same made = ap (λ k. k.shelf) made ∙ locked_shelf t l write new.home ∙ ap (λ v. v.home.shelf) same
+
+-- and adds its lock
+lock_added : (t : TxId) (l : Held) (write : Option (ℕ × List ℕ)) (h : HomeState) → (locked t l write (work_on h)).work.home.txs ≡ add h.txs t l
+unfolding perform
+lock_added t l None h = refl
+lock_added t l (Some w) h = refl
+
+pub ended_txs : (t : TxId) (l : Held) (write : Option (ℕ × List ℕ)) (old new end : PartsView) → new ≡ record old { home = with_pool old.home new.home.pool }
+    → end.home ≡ (locked t l write (work_on new.home)).work.home → end.home.txs ≡ add old.home.txs t l
+ended_txs t l write old new end same made = ap (λ k. k.txs) made ∙ lock_added t l write new.home ∙ ap (λ v. add v.home.txs t l) same
 
 -- the lock comes with the access or after it
 pub locked_after : (t : TxId) (l : Held) (write : Option (ℕ × List ℕ)) (h : HomeState) → (locked t l write (work_on h)).work.home

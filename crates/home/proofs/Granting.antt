@@ -1,8 +1,8 @@
 -- What a grant comes to, by the rule over told pages and by an image that stands for the content.
-use Rattle.std.proofs.Common.{◌≡◌, ℕ, ◌+◌, ◌<◌, ◌≤◌, ◌==◌, Bool, true, false, List, [], length, Option, Some, None, is_some, IfSome, Result, Ok, Err, refl, ap, sym, subst, ◌∙◌, arith}
+use Rattle.std.proofs.Common.{◌≡◌, ℕ, ◌+◌, ◌<◌, ◌==◌, Bool, true, false, List, [], length, Option, Some, None, IfSome, Result, Ok, Err, refl, ap, sym, subst, ◌∙◌, arith}
 use Rattle.std.proofs.lemmas.Bool.Decides.{nat_tests}
 use Rattle.std.proofs.lemmas.Option.{slice_get-get_or}
-use Rattle.std.specs.Prelude.{OnOk, IfOk, IsErrAnd}
+use Rattle.std.specs.Prelude.{IsErrAnd}
 use Rattle.std.specs.List.{All}
 use Rattle.pcl_base.specs.Limits.{Sizes}
 use Rattle.pcl_base.specs.declared.tx.TxId.{TxId}
@@ -12,17 +12,16 @@ use Rattle.disk_model.specs.Disk.{Pages, Logs, Rooms, HasSizes, told_at}
 use Rattle.text_rules.specs.StoredPage.{PageAt, BadNumber, stored_page}
 use Rattle.run_rules.specs.Disk.{raw_page}
 use Rattle.node_rules.specs.Words.{pick}
-use Rattle.node_rules.specs.OpenTxs.{pending_of, add}
-use Rattle.node_rules.specs.Shelf.{Right}
+use Rattle.node_rules.specs.OpenTxs.{pending_of}
 use Rattle.node_rules.specs.BufferRule.{Pool, install, find}
 use Rattle.node_rules.specs.CopyRule.{is_version}
 use Rattle.node_rules.specs.NodeState.{HomeState}
 use Rattle.node_rules.specs.Work.{HomeWork, Outcome, Goes, Differs, and_then, and_so, with_pool, read_page, page_or_differs}
-use Rattle.node_rules.specs.AccessRule.{Granted, bring, unless_current, new_content, from_disk, on_pool, clean_copy, perform, locked, write_of, granted}
+use Rattle.node_rules.specs.AccessRule.{bring, unless_current, from_disk, on_pool, clean_copy, perform, locked, write_of, granted}
 use Rattle.home.specs.declared.fault.HomeFault.{HomeFault}
 use Rattle.home.specs.declared.fault.HomeFault.TheVariants as fault
 use Rattle.home.specs.Device.{work_on}
-use Rattle.home.specs.Grants.{work_at, differing, Puts, PutsBytes, Tells, brought, outcome, StandsFor, ByImage}
+use Rattle.home.specs.Grants.{work_at, Puts, Tells, brought, outcome, ByImage}
 
 -- a stored page that is told
 pub told_page : (P : List ℕ → Type 0) (pages : Pages) (ps : List (List ℕ)) (p : ℕ) → pages ≡ Some ps → p < length ps → IfSome (told_at pages p) P → P (raw_page ps p)

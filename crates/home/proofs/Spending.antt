@@ -1,14 +1,16 @@
 -- The rights on pages of a partition are spent, one after the other.
-use Rattle.std.proofs.Common.{◌≡◌, ℕ, suc, ◌+◌, ◌<◌, ◌≤◌, ◌==◌, ◌&&◌, not, cond, Bool, true, false, List, [], ◌∷◌, length, map, drop, get_or, refl, ap, sym, ◌∙◌, arith}
+use Rattle.std.proofs.Common.{◌≡◌, ℕ, suc, ◌+◌, ◌<◌, ◌≤◌, ◌==◌, ◌&&◌, not, cond, Bool, true, false, List, [], ◌∷◌, length, map, drop, get_or, refl, ap, sym, subst, ◌∙◌, arith}
 use Rattle.std.proofs.Math.Seq.{drop-cons}
 use Rattle.std.proofs.Math.ListN.{drop_of_length-le}
-use Rattle.std.specs.List.{filter, fold}
+use Rattle.std.proofs.lemmas.List.Elements.{All-weaker}
+use Rattle.std.specs.List.{All, filter, fold}
 use Rattle.pcl_base.specs.Limits.{Sizes}
 use Rattle.node_rules.specs.Words.{pick}
 use Rattle.node_rules.specs.Shelf.{Right, spend}
 use Rattle.home_laws.proofs.Words.{equal}
+use Rattle.home.specs.Ends.{listed}
 use Rattle.home.specs.Moves.{spend_if}
-use Rattle.home.proofs.Removed.{others, removes, removes_all}
+use Rattle.home.proofs.Removed.{IsListed, others, removes, removes_all}
 use Rattle.home.proofs.Turned.{self_listed}
 use Rattle.home.proofs.Turning.{in_part}
 
@@ -59,18 +61,20 @@ removed_as : (c : Sizes) (q : ℕ) (rs : List Right) (ps : List ℕ) → fold (�
 removed_as c q rs [] = refl
 removed_as c q rs (p ∷ ps) = ap (λ l. fold (λ z n. spend_if (in_part c q n) z n) l ps) (spent_as c q p rs) ∙ removed_as c q (others (λ r. in_part c q r.page) page_right p rs) ps
 
-pub all_spent : (c : Sizes) (q : ℕ) (rs : List Right) → fold (λ l p. spend_if (in_part c q p) l p) rs (map page_right rs) ≡ filter (λ r. not (in_part c q r.page)) rs
-all_spent c q rs =
-    removed_as c q rs (map page_right rs)
-    ∙ removes_all (λ r. in_part c q r.page) page_right (map page_right rs) rs (self_listed (λ (r : Right). in_part c q r.page) page_right rs)
-
 -- the rights as they are told, and their pages
 abbrev pub pairs_of : List Right → List (ℕ × ℕ)
 pairs_of rs = map (λ (r : Right). (r.page, r.version)) rs
 
-pub pages_told : (rs : List Right) → map page_pair (pairs_of rs) ≡ map page_right rs
+pages_told : (rs : List Right) → map page_pair (pairs_of rs) ≡ map page_right rs
 pages_told [] = refl
 pages_told (r ∷ rs) = ap (λ l. r.page ∷ l) (pages_told rs)
+
+-- all of them are told
+pub all_told : (rs : List Right) (told : List (ℕ × ℕ)) → told ≡ pairs_of rs → All (λ r. listed (map page_pair told) r.page ≡ true) rs
+all_told rs told is =
+    subst (λ pages. All (λ r. listed pages r.page ≡ true) rs) (sym (ap (λ l. map page_pair l) is ∙ pages_told rs))
+    (All-weaker (IsListed (λ r. true) page_right (map page_right rs)) (λ r. listed (map page_right rs) r.page ≡ true) (λ r listed_if. listed_if refl) rs
+    (self_listed (λ r. true) page_right rs))
 
 -- a fold over pages: the next one, and none
 pub pairs_next : {Y : Type 0} (f : Y → ℕ → Y) (es : List (ℕ × ℕ)) (i : ℕ) (d : ℕ × ℕ) (x y : Y) → i < length es → y ≡ f x (get_or es i d).0
@@ -83,10 +87,11 @@ pairs_next f es i d x y within changed =
 pub pairs_over : {Y : Type 0} (f : Y → ℕ → Y) (es : List (ℕ × ℕ)) (i : ℕ) (x : Y) → length es ≤ i → fold f x (map page_pair (drop i es)) ≡ x
 pairs_over f es i x over = ap (λ l. fold f x (map page_pair l)) (drop_of_length-le es over)
 
--- all rights are told, and those of the partition are spent
-pub rights_spent : (c : Sizes) (q : ℕ) (rs new : List Right) (told : List (ℕ × ℕ)) → told ≡ pairs_of rs
-    → new ≡ fold (λ l p. spend_if (in_part c q p) l p) rs (map page_pair told) → new ≡ filter (λ r. not (in_part c q r.page)) rs
-rights_spent c q rs new told is changed =
+-- the pages of all rights are listed, and those of the partition are spent
+pub rights_spent : (c : Sizes) (q : ℕ) (rs new : List Right) (pages : List ℕ) → All (λ r. listed pages r.page ≡ true) rs
+    → new ≡ fold (λ l p. spend_if (in_part c q p) l p) rs pages → new ≡ filter (λ r. not (in_part c q r.page)) rs
+rights_spent c q rs new pages all changed =
     changed
-    ∙ ap (λ l. fold (λ z p. spend_if (in_part c q p) z p) rs (map page_pair l)) is
-    ∙ ap (λ l. fold (λ z p. spend_if (in_part c q p) z p) rs l) (pages_told rs) ∙ all_spent c q rs
+    ∙ removed_as c q rs pages
+    ∙ removes_all (λ r. in_part c q r.page) page_right pages rs
+    (All-weaker (λ r. listed pages r.page ≡ true) (IsListed (λ r. in_part c q r.page) page_right pages) (λ r is own. is) rs all)

@@ -1,8 +1,7 @@
 -- What a grant comes to: by the rule over told pages, and by some image where they are untold.
-use Rattle.std.specs.Prelude.{◌≡◌, ◌≢◌, ◌⊎◌, ℕ, ◌≤◌, ◌==◌, ◌&&◌, not, Bool, true, false, List, [], length, Option, Some, None, is_some, IfSome, Result, Ok, Err, ⊤}
+use Rattle.std.specs.Prelude.{◌≡◌, ◌≢◌, ℕ, ◌≤◌, ◌==◌, ◌&&◌, not, Bool, true, false, List, [], length, Option, Some, None, is_some, IfSome, Result, Ok, Err, ⊤}
 use Rattle.pcl_base.specs.declared.trace.Call.TheVariants.{Read}
 use Rattle.pcl_base.specs.declared.tx.TxId.{TxId}
-use Rattle.pcl_base.specs.declared.lock.Held.{Held}
 use Rattle.pcl_base.specs.declared.message.CopyPart.{CopyPart}
 use Rattle.pcl_base.specs.declared.message.CopyPart.TheVariants as part
 use Rattle.pcl_base.specs.declared.message.Grant.{Grant}
@@ -15,13 +14,12 @@ use Rattle.node_rules.specs.Shelf.{Right, right_on}
 use Rattle.node_rules.specs.BufferRule.{Pool, install, find}
 use Rattle.node_rules.specs.CopyRule.{is_version}
 use Rattle.node_rules.specs.NodeState.{HomeState, runs_at}
-use Rattle.node_rules.specs.Work.{HomeWork, Outcome, Goes, Differs, and_so, with_pool}
-use Rattle.node_rules.specs.AccessRule.{Granted, Arrived, bring, granted, on_grant, clean_copy, write_of}
+use Rattle.node_rules.specs.Work.{HomeWork, Outcome, Goes, Differs, and_so}
+use Rattle.node_rules.specs.AccessRule.{Granted, Arrived, clean_copy, write_of}
 use Rattle.buffer_pool.specs.Buffer.{IsBuffer}
 use Rattle.home_laws.specs.AccessNeeds.{MayDo}
 use Rattle.home.specs.declared.fault.HomeFault.{HomeFault}
 use Rattle.home.specs.declared.fault.HomeFault.TheVariants as fault
-use Rattle.home.specs.Device.{work_on}
 use Rattle.home.specs.Parts.{PartsView}
 
 -- the work of a call that begins at a home with these stored pages

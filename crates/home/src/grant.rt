@@ -3,12 +3,13 @@ ghost use Rattle.pcl_base.specs.Faults.{Rose};
 ghost use Rattle.pcl_base.specs.declared.trace.Call.{Call as CallKind};
 ghost use Rattle.disk_model.specs.Disk.{HasSizes};
 ghost use Rattle.disk_model.specs.Stops.{Fate, Done, Stopped, reading_fate};
-ghost use Rattle.node_rules.specs.OpenTxs.{pending_of, waits_as};
+ghost use Rattle.node_rules.specs.OpenTxs.{add, pending_of, waits_as};
 ghost use Rattle.node_rules.specs.AccessRule.{granted, image_of};
 ghost use Rattle.tx_table.specs.Counts.{wait_count};
 ghost use Rattle.home_laws.specs.Homes.{IsHome};
 ghost use Rattle.home.specs.Device.{work_on};
 ghost use Rattle.home.specs.Grants.{work_at, Tells, ByImage, outcome, IsReadFault, is_read_failed, is_read, after_reading};
+ghost use Rattle.home.specs.Moves.{MoveListView, Lists};
 ghost use Rattle.home.specs.Parts.{IsPrepared};
 
 use crate::fault::HomeFault;
@@ -39,6 +40,7 @@ impl Home {
         ensures image { IfOk result (λ r. ByImage page version None (λ i. outcome (granted tx (record { page = page; mode = mode; kind = Kind.Own }) version i (work_on self.old))) self.old r self.new) }
         ensures fault { IfErr result (IsReadFault page) }
         ensures err { OnErr result (self.new ≡ self.old) }
+        ensures listed { (list : MoveListView) → Lists list self.old → Lists list self.new }
         ensures pages { S.pages s.new ≡ S.pages s.old }
         ensures logs { S.logs s.new ≡ S.logs s.old }
         ensures rooms { S.rooms s.new ≡ S.rooms s.old }
@@ -76,6 +78,7 @@ impl Parts {
         ensures image { IfOk result (λ r. ByImage lock.page version (image_of copy.now) (λ i. outcome (granted tx lock version i (work_on self.old.home))) self.old.home r self.new.home) }
         ensures prepared { IsPrepared self.new }
         ensures right { OnOk result (wait_count self.new.home.txs.txs + 1 ≤ self.new.rights) }
+        ensures txs { OnOk result (self.new.home.txs ≡ add self.old.home.txs tx lock) }
         ensures shelf { self.new.home.shelf ≡ self.old.home.shelf }
         ensures fault { IfErr result (IsReadFault lock.page) }
         ensures err { OnErr result (self.new ≡ self.old) }

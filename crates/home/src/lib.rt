@@ -30,6 +30,7 @@ mod kinds;
 mod laws;
 mod leave;
 mod memory;
+mod move_list;
 mod moves;
 mod on_grant;
 mod owner;
@@ -54,6 +55,7 @@ pub use home::Home;
 pub use laws::{
     an_armed_stop_decides, calls_join, calls_leave_what_the_rules_say, unstopped_calls_are_done,
 };
+pub use move_list::MoveList;
 pub use tx_table::BeginFault;
 
 #[cfg(test)]

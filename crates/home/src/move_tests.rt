@@ -1,10 +1,18 @@
 use crate::counter::Counter;
 use crate::grant_tests::write_of;
 use crate::{Home, HomeFault};
-use pcl_base::{Change, Config, Items, NodeNo, PageNo, Reason, TxId};
+use pcl_base::{Change, Config, Items, NoMemory, NodeNo, PageNo, Reason, TxId};
 use std::alloc::Global;
 use std::rt::HostRuntime;
 use std::test::Fail;
+
+/// A partition comes and goes.
+fn move_both(home: &mut Home, partition: NodeNo) -> Result<(), NoMemory> {
+    let list = home.move_list()?;
+    home.take_over(&list, partition);
+    home.give_up(&list, partition);
+    Ok(())
+}
 
 /// A home of two nodes takes a change of page 4 and a partition, and gives a partition up: how many
 /// pages a flush of page 4 writes then, and an eviction after that.
@@ -17,13 +25,12 @@ fn writes_after(alloc: Global, partition: NodeNo) -> Option<(u32, u32)> {
         Ok(mut home) => {
             let mut disk = Counter::new(5, 1);
             let taken = home.take_change(4, &change, &mut disk).is_ok();
-            let got = home.take_over(partition).is_ok();
-            let lost = home.give_up(partition).is_ok();
+            let moved = move_both(&mut home, partition).is_ok();
             let flushed = home.flush(4, &mut disk).is_ok();
             let first = disk.writes;
             let evicted = home.evict(4, &mut disk).is_ok();
             home.close();
-            if taken && got && lost && flushed && evicted {
+            if taken && moved && flushed && evicted {
                 return Some((first, disk.writes));
             }
             None

@@ -1,4 +1,4 @@
-use Rattle.std.proofs.Common.{◌≡◌, ◌≤◌, ◌+◌, length, is_some, ap, sym, subst, ◌∙◌}
+use Rattle.std.proofs.Common.{◌≤◌, ◌+◌, length, is_some, ap, sym, subst, ◌∙◌}
 use Rattle.node_rules.specs.BufferRule.{copy_at, copy_of_slot, has_private, touch}
 use Rattle.node_rules.specs.AccessRule.{filled}
 use Rattle.home_laws.proofs.Performed.{touch_done, filled_done}

@@ -1,8 +1,6 @@
-use Rattle.std.proofs.Common.{◌≡◌, ◌≤◌, ◌+◌, refl, ap, sym, subst, ◌∙◌, arith}
 use Rattle.node_rules.specs.AccessRule.{shelf_after, readers_after}
-use Rattle.home.specs.Device.{work_on}
 use Rattle.home.specs.Grants.{work_at}
-use Rattle.home.proofs.Arriving.{arrival_told, arrival_fault, arrival_image, grant_fault, grant_memory, readers_prepared}
+use Rattle.home.proofs.Arriving.{arrival_told, arrival_fault, arrival_image, readers_prepared}
 use Rattle.home.proofs.parts.Parts.arrive.Goals as goal
 
 pub returns-in_err-reply-clause-told : goal.returns-in_err-reply-clause-told

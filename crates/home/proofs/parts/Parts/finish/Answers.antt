@@ -1,4 +1,4 @@
-use Rattle.std.proofs.Common.{◌≡◌, ap, sym, ◌∙◌}
+use Rattle.std.proofs.Common.{ap, sym, ◌∙◌}
 use Rattle.node_rules.specs.OpenTxs.{pending_of, waits_on, add}
 use Rattle.node_rules.specs.NodeState.{HomeState}
 use Rattle.node_rules.specs.AccessRule.{write_of}

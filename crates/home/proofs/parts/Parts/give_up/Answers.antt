@@ -7,4 +7,4 @@ use Rattle.home.proofs.parts.Parts.give_up.Goals as goal
 pub returns-clause-prepared : goal.returns-clause-prepared
 returns-clause-prepared c prepared =
     subst IsPrepared (sym c.clean_pages.ensures)
-    (pool_prepared c.turn_all.new.self _ (subst IsPrepared (sym c.in_ok-turn_all.ensures.ok) (turned_prepared c.args.partition Registered c.args.self.now prepared)))
+    (pool_prepared c.turn_all.new.self _ (subst IsPrepared (sym c.turn_all.ensures) (turned_prepared c.args.partition Registered c.args.self.now prepared)))

@@ -1,10 +1,10 @@
-use Rattle.std.proofs.Common.{◌≡◌, ◌≤◌, ◌+◌, refl, ap, sym, subst, ◌∙◌}
+use Rattle.std.proofs.Common.{ap}
 use Rattle.node_rules.specs.OpenTxs.{pending_of}
 use Rattle.node_rules.specs.AccessRule.{image_of, write_of}
 use Rattle.home_laws.proofs.GrantNeeds.{granted_slot}
 use Rattle.home.specs.Grants.{work_at}
 use Rattle.home.proofs.Granting.{granted_tells, granted_fault, granted_image}
-use Rattle.home.proofs.Ended.{came, may_end, ended_prepared, ended_right, ended_shelf}
+use Rattle.home.proofs.Ended.{came, may_end, ended_prepared, ended_right, ended_shelf, ended_txs}
 use Rattle.home.proofs.parts.Parts.grant.Goals as goal
 
 pub bring-requires-clause-slot : goal.bring-requires-clause-slot
@@ -47,3 +47,7 @@ returns-clause-right g c =
 pub returns-clause-shelf : goal.returns-clause-shelf
 returns-clause-shelf g c =
     ended_shelf c.args.tx c.args.lock (write_of (pending_of c.bring.new.self.home.txs c.args.tx)) c.args.self.now c.bring.new.self c.finish.new.self c.bring.ensures.same c.finish.ensures.home
+
+pub returns-clause-txs : goal.returns-clause-txs
+returns-clause-txs g c =
+    ended_txs c.args.tx c.args.lock (write_of (pending_of c.bring.new.self.home.txs c.args.tx)) c.args.self.now c.bring.new.self c.finish.new.self c.bring.ensures.same c.finish.ensures.home

@@ -6,4 +6,4 @@ use Rattle.home.proofs.parts.Parts.take_over.Goals as goal
 
 pub returns-clause-prepared : goal.returns-clause-prepared
 returns-clause-prepared c prepared =
-    c.spend_rights.ensures.prepared (subst IsPrepared (sym c.in_ok-turn_all.ensures.ok) (turned_prepared c.args.partition Own c.args.self.now prepared))
+    c.spend_rights.ensures.prepared (subst IsPrepared (sym c.turn_all.ensures) (turned_prepared c.args.partition Own c.args.self.now prepared))
