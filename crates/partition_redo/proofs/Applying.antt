@@ -113,7 +113,7 @@ wrote_torn by p bytes raw l old new before stops left r a b same torn after fate
     tear (inr e) = inr (e ∙ ap (λ (x : Pages). with_page x p raw) a ∙ ap (λ (bs : List ℕ). Some (slice_set l p bs)) same)
 
 -- the page of a chain can be redone
-redone_is : (c : Sizes) (d : Disk) (p : ℕ) (old new : PageAt) → stored_page p (raw_page d.pages p) ≡ Ok old → redo c d p ≡ Some new → redone (all_records c d) p old ≡ new
+pub redone_is : (c : Sizes) (d : Disk) (p : ℕ) (old new : PageAt) → stored_page p (raw_page d.pages p) ≡ Ok old → redo c d p ≡ Some new → redone (all_records c d) p old ≡ new
 redone_is c d p old new stored redoes =
     let both : Some (redone (all_records c d) p old) ≡ Some new = sym (redo_own c d p ∙ ap (redone_if (all_records c d) p) stored) ∙ redoes in
     cc

@@ -1,5 +1,5 @@
 -- What an index knows is what the entries of the page say.
-use Rattle.std.proofs.Common.{◌≡◌, refl, sym, ap, subst, ◌∙◌, ℕ, ◌<◌, ◌≤◌, Bool, true, false, nat_lt, ◌==◌, ◌&&◌, not, List, [], ◌∷◌, ◌++◌, map, Option, Some, None, arith, append_assoc, append-nil}
+use Rattle.std.proofs.Common.{◌≡◌, refl, sym, ap, subst, ◌∙◌, ℕ, ◌<◌, ◌≤◌, Bool, true, false, nat_lt, ◌==◌, ◌&&◌, not, List, [], ◌∷◌, ◌++◌, map, Option, Some, None, is_some, arith, append_assoc, append-nil}
 use Rattle.std.specs.Prelude.{⊤}
 use Rattle.std.specs.List.{filter, AllByRecursion}
 use Rattle.std.proofs.lemmas.Bool.Decides.{nat_tests}
@@ -38,6 +38,8 @@ pub record Knows (c : Sizes) (d : Disk) (at : PageAt) (xs : List Logged) (b : Ba
   pub base : (v : ℕ) → (k v).base ≡ Some b
   pub version : b.version ≡ (newest_image at xs).version
   pub image : IsImage c d at (newest_image at xs) b.version b.image
+  pub least : at.version ≤ b.version
+  pub above : is_some b.image ≡ true → at.version < b.version
   pub ranges : (v : ℕ) → b.version < v → AreRangesAt c d (k v).ranges (ranges_at xs v)
 
 ranges_or_else : (b : Bool) (p : Part) (o r : Option (List ChangedRange)) → ranges_or b p (or_else o r) ≡ or_else (ranges_or b p o) r
@@ -88,6 +90,8 @@ knows_other c d p n at xs b k x other h =
       base = λ v. ap (next_base p n (seen_of x)) (h.base v) ∙ other_base (x.entry.page == p) _ _ _ b other;
       version = h.version;
       image = h.image;
+      least = h.least;
+      above = h.above;
       ranges = λ v less.
           let same : next_ranges p v n (seen_of x) (k v).base (k v).ranges ≡ (k v).ranges =
           ap (λ (o : Option Base). next_ranges p v n (seen_of x) o (k v).ranges) (h.base v) ∙ other_ranges (x.entry.page == p) _ _ _ _ (k v).ranges other in
@@ -124,6 +128,8 @@ knows_kept c d p n at xs b k x own stands h old same =
       base = λ v. ap (next_base p n (seen_of x)) (h.base v) ∙ kept_base (x.entry.page == p) (nat_lt b.version x.entry.version) (is_whole x.entry.part) _ b old;
       version = h.version ∙ ap (λ (a : PageAt). a.version) (sym same);
       image = subst (λ (a : PageAt). IsImage c d at a b.version b.image) (sym same) h.image;
+      least = h.least;
+      above = h.above;
       ranges = λ v less. own_ranges c d p n v at xs b k x own stands h less;
     }
 
@@ -143,6 +149,8 @@ knows_new c d p n at xs b k x bytes own stands h newer_one is =
           ∙ ap (λ (q : Part). pick (true && true && is_whole q) (Some a) (Some b)) is;
       version = ap (λ (q : PageAt). q.version) (sym made);
       image = (x.entry, bytes, stands, is, made);
+      least = (let low = h.least in omega (arith, low, less));
+      above = λ e. (let low = h.least in omega (arith, low, less));
       ranges = λ v later. own_ranges c d p n v at xs b k x own stands h (omega arith);
     }
 

@@ -121,6 +121,10 @@ next_lead c d xs ranges (s ∷ ss) low w at known above next = one (ranges_at xs
           version = ap (λ (q : PageAt). q.version) step ∙ more.version;
         }
 
+pub next_rises : (ranges : ℕ → Option Site) (ts : List Site) (v u : ℕ) → AreNext ranges ts v u → v ≤ u
+next_rises ranges [] v u is = omega arith
+next_rises ranges (t ∷ ts) v u is = let more = next_rises ranges ts (v + 1) u is.1 in omega arith
+
 -- a page that is led to its redo
 pub record LeadsToRedo (c : Sizes) (d : Disk) (xs : List Logged) (ss : List Site) (at : PageAt) (w : ℕ) : Type 0 where
   pub leads : Leads c d ss at.bytes (redone_by xs at).bytes
@@ -143,10 +147,6 @@ chain_leads c d xs b k ss at w h next ends =
       version = ap (λ (q : PageAt). q.version) same ∙ way.version;
     }
   where
-    next_rises : (ranges : ℕ → Option Site) (ts : List Site) (v u : ℕ) → AreNext ranges ts v u → v ≤ u
-    next_rises ranges [] v u is = omega arith
-    next_rises ranges (t ∷ ts) v u is = let more = next_rises ranges ts (v + 1) u is.1 in omega arith
-
     none_of : (o : Option Site) (r : Option (List ChangedRange)) → o ≡ None → AreRangesAt c d o r → r ≡ None
     none_of None None is a = refl
     none_of None (Some rs) is a = absurd a

@@ -8,3 +8,4 @@ pub mod Plans
 pub mod Staying
 pub mod Redoing
 pub mod Applying
+pub mod Written

@@ -1,6 +1,6 @@
 -- Plans: listed pages, and the chains that lead them to their redo.
-use Rattle.std.proofs.Common.{inl, inr, ◌≡◌, refl, sym, ap, subst, ◌∙◌, ℕ, zero, suc, ◌+◌, ◌-◌, ◌^◌, ◌<◌, ◌≤◌, Bool, true, false, ◌==◌, List, [], ◌∷◌, ◌++◌, length, map, slice_index, Option, Some, None, Ok, arith, cond}
-use Rattle.std.specs.Prelude.{◌⊎◌}
+use Rattle.std.proofs.Common.{inl, inr, ◌≡◌, refl, sym, ap, subst, ◌∙◌, ℕ, zero, suc, ◌+◌, ◌-◌, ◌^◌, ◌<◌, ◌≤◌, Bool, true, false, ◌==◌, not, List, [], ◌∷◌, ◌++◌, length, map, slice_index, Option, Some, None, is_some, Ok, arith, cond}
+use Rattle.std.specs.Prelude.{◌⊎◌, IfOk}
 use Rattle.std.specs.List.{AllByRecursion}
 use Rattle.std.proofs.lemmas.Bool.Decides.{nat_tests}
 use Rattle.pcl_base.specs.Limits.{Sizes}
@@ -18,9 +18,9 @@ use Rattle.partition_redo.specs.declared.site.Site.{Site}
 use Rattle.partition_redo.specs.declared.site.Base.{Base}
 use Rattle.partition_redo.specs.declared.site.Chain.{Chain}
 use Rattle.partition_redo.specs.Index.{IndexView, base_of, ranges_of, known, known_logs}
-use Rattle.partition_redo.specs.Chains.{AreAll, AreNext, AreLast, IsGiven, IsListed, IsChain, AreChains, IsRedone, image_sites, Leads}
+use Rattle.partition_redo.specs.Chains.{AreAll, AreNext, AreLast, IsGiven, IsListed, IsChain, IsNewer, AreChains, IsRedone, image_sites, Leads}
 use Rattle.partition_redo.proofs.Indexed.{AreRangesAt, IsImage, KnowsSome, entries_in}
-use Rattle.partition_redo.proofs.Leading.{placed_entries, knows_logs, chain_leads}
+use Rattle.partition_redo.proofs.Leading.{placed_entries, knows_logs, next_rises, chain_leads}
 
 -- one more pair
 pub are_more : {X Y : Type 0} (P : X → Y → Type 0) (xs : List X) (ys : List Y) (x : X) (y : Y) → AreAll P xs ys → P x y → AreAll P (xs ++ x ∷ []) (ys ++ y ∷ [])
@@ -104,6 +104,8 @@ known_some c d i j p h full =
         base = λ v. h.base;
         version = refl;
         image = refl;
+        least = omega arith;
+        above = λ e. absurd (cc);
         ranges = λ v less. subst (λ (o : Option Site). AreRangesAt c d o None) (sym (full.none_yet p v)) tt;
       };
     } in
@@ -143,6 +145,28 @@ given_is_chain c d i j p x full h given =
     ends : AreLast j p x.version → AllByRecursion (λ y. y.version < 2 ^ 64) (entries c d p) → (ranges_of j p (x.version + 1) ≡ None) ⊎ ((x.version ≡ 2 ^ 64 - 1) × AllByRecursion (λ y. y.version < 2 ^ 64) (entries c d p))
     ends (inl none) all = inl none
     ends (inr big) all = inr (big, all)
+
+-- and to a newer page, where it has entries
+later : (j : IndexView) (p low v to : ℕ) (o : Option Site) (ss : List Site) → low ≤ v → (is_some o ≡ true → low < v) → AreNext (ranges_of j p) ss v to → not (length (image_sites o ++ ss) == 0) ≡ true → low < to
+later j p low v to (Some s) ss least above next some = let first = above refl in let rises = next_rises (ranges_of j p) ss v to next in omega (arith, first, rises)
+later j p low v to None [] least above next some = absurd (cc)
+later j p low v to None (s ∷ ss) least above next some = let rises = next_rises (ranges_of j p) ss (v + 1) to next.1 in omega (arith, least, rises)
+
+pub given_is_newer : (c : Sizes) (d : Disk) (i j : IndexView) (p : ℕ) (x : Chain) → IsFull c d i j → IsListed d i p → IsGiven j p x → IsNewer d x
+given_is_newer c d i j p x full h given has =
+    let some = known_some c d i j p h full in
+    let follows = given.follows some.newest (some.knows.base 0) in
+    let sites : not (length (image_sites some.newest.image ++ follows.more) == 0) ≡ true = sym (ap (λ (ss : List Site). not (length ss == 0)) follows.sites_same) ∙ has in
+    let stored = subst (λ (q : ℕ). stored_page q (raw_page d.pages q) ≡ Ok h.at) (sym follows.page_same) h.stored in
+    subst (λ r. IfOk r (λ old. old.version < x.version)) (sym stored)
+    (later j p h.at.version some.newest.version x.version some.newest.image follows.more some.knows.least some.knows.above follows.next sites)
+
+pub given_are_newer : (c : Sizes) (d : Disk) (i j : IndexView) (ps : List ℕ) (xs : List Chain) → IsFull c d i j → ((k : ℕ) → k < length ps → IsListed d i (slice_index ps k)) → AreAll (IsGiven j) ps xs → AllByRecursion (IsNewer d) xs
+given_are_newer c d i j [] [] full h all = tt
+given_are_newer c d i j [] (x ∷ xs) full h all = absurd all
+given_are_newer c d i j (p ∷ ps) [] full h all = absurd all
+given_are_newer c d i j (p ∷ ps) (x ∷ xs) full h all =
+    (given_is_newer c d i j p x full (h 0 (omega arith)) all.0, given_are_newer c d i j ps xs full (λ k less. h (suc k) (omega arith)) all.1)
 
 -- all listed pages
 pub given_are_chains : (c : Sizes) (d : Disk) (i j : IndexView) (ps : List ℕ) (xs : List Chain) → IsFull c d i j → ((k : ℕ) → k < length ps → IsListed d i (slice_index ps k)) → AreAll (IsGiven j) ps xs → AreChains c d ps xs

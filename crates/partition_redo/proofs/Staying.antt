@@ -1,5 +1,6 @@
 -- Chains on a disk with the same listed pages and the same whole records.
 use Rattle.std.proofs.Common.{◌≡◌, refl, sym, ap, subst, ◌∙◌, ℕ, ◌<◌, List, [], ◌∷◌, ◌++◌, arith}
+use Rattle.std.specs.Prelude.{IfOk}
 use Rattle.std.specs.List.{AllByRecursion, Contains}
 use Rattle.pcl_base.specs.Limits.{Sizes}
 use Rattle.pcl_base.specs.declared.log.Record.{Record}
@@ -14,8 +15,8 @@ use Rattle.redo_log.specs.Applied.{with_part}
 use Rattle.redo_laws.proofs.Changes.{redo_same}
 use Rattle.partition_redo.specs.declared.site.Site.{Site}
 use Rattle.partition_redo.specs.declared.site.Chain.{Chain}
-use Rattle.partition_redo.specs.Chains.{Stands, IsSite, AllStand, Leads, IsChain}
-use Rattle.partition_redo.specs.Plans.{ChainsStay, EntriesStay}
+use Rattle.partition_redo.specs.Chains.{Stands, IsSite, AllStand, Leads, IsChain, IsNewer}
+use Rattle.partition_redo.specs.Plans.{ChainsStay, EntriesStay, NewerStay}
 use Rattle.partition_redo.proofs.Plans.{count_all}
 
 -- the same whole records of each log
@@ -82,3 +83,11 @@ chains_stay c d e xs alike all = chains_alike c d e xs alike.pages alike.records
 
 pub entries_stay : EntriesStay
 entries_stay c d e xs alike all = entries_alike c d e xs alike.records all
+
+newer_alike : (d e : Disk) (xs : List Chain) → AllByRecursion (λ x. raw_page e.pages x.page ≡ raw_page d.pages x.page) xs → AllByRecursion (IsNewer d) xs → AllByRecursion (IsNewer e) xs
+newer_alike d e [] pages all = tt
+newer_alike d e (x ∷ xs) pages all =
+    (λ has. subst (λ raw. IfOk (stored_page x.page raw) (λ old. old.version < x.version)) (sym pages.0) (all.0 has), newer_alike d e xs pages.1 all.1)
+
+pub newer_stay : NewerStay
+newer_stay c d e xs alike all = newer_alike d e xs alike.pages all

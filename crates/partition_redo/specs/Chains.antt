@@ -1,6 +1,6 @@
 -- Chains of entries in logs that lead from a stored page to its redo.
-use Rattle.std.specs.Prelude.{◌≡◌, ⊤, ℕ, ◌+◌, ◌-◌, ◌^◌, ◌<◌, ◌≤◌, ◌⊎◌, ◌≢◌, List, [], ◌∷◌, ◌++◌, Option, Some, None, Result, Ok, Err}
-use Rattle.std.specs.List.{AllByRecursion}
+use Rattle.std.specs.Prelude.{◌≡◌, ⊤, ℕ, ◌+◌, ◌-◌, ◌^◌, ◌<◌, ◌≤◌, ◌⊎◌, ◌≢◌, ◌==◌, not, Bool, true, List, [], ◌∷◌, ◌++◌, length, map, Option, Some, None, Result, Ok, Err, IfOk}
+use Rattle.std.specs.List.{AllByRecursion, filter}
 use Rattle.pcl_base.specs.Limits.{Sizes}
 use Rattle.pcl_base.specs.declared.log.Logged.{Logged}
 use Rattle.pcl_base.specs.declared.trace.Call.{Call}
@@ -53,6 +53,18 @@ pub record IsChain (c : Sizes) (d : Disk) (x : Chain) : Type 0 where
   pub fresh : x.sites ≡ [] → x.version ≤ old.version
   pub small : x.page < 2 ^ 32
   pub fits : x.version < 2 ^ 64
+
+-- whether a chain has entries
+abbrev pub has_sites : Chain → Bool
+has_sites x = not (length x.sites == 0)
+
+-- the pages of the chains that have some: redo writes these
+abbrev pub written_pages : List Chain → List ℕ
+written_pages xs = map (λ (x : Chain). x.page) (filter has_sites xs)
+
+-- a chain that has entries leads to a newer page than the stored one
+abbrev pub IsNewer : Disk → Chain → Type 0
+IsNewer d x = has_sites x ≡ true → IfOk (stored_page x.page (raw_page d.pages x.page)) (λ old. old.version < x.version)
 
 -- items of two lists belong together, each to the one at its place
 abbrev pub AreAll : {X Y : Type 0} → (X → Y → Type 0) → List X → List Y → Type 0

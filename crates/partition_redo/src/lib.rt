@@ -18,7 +18,7 @@ mod versions;
 mod walked;
 mod whole;
 
-pub use laws::plan_stays;
+pub use laws::{newer_are_written, plan_stays};
 pub use page_store::RedoFault;
 pub use plan::prepare;
 pub use planned::Planned;

@@ -1,4 +1,4 @@
-ghost use Rattle.std.specs.Prelude.{◌≡◌, ◌≢◌, ℕ, ◌<◌, ◌≤◌, ◌+◌, ◌⊎◌, List, Option, Some, None, All, map, drop, length, OnOk, IfOk, IfErr, slice_index};
+ghost use Rattle.std.specs.Prelude.{◌≡◌, ◌≢◌, ℕ, ◌<◌, ◌≤◌, ◌+◌, ◌⊎◌, ◌++◌, ◌∷◌, [], List, Option, Some, None, All, map, drop, length, OnOk, IfOk, IfErr, slice_index};
 ghost use Rattle.std.specs.List.{AllByRecursion};
 ghost use Rattle.pcl_base.specs.Faults.{Rose};
 ghost use Rattle.pcl_base.specs.declared.trace.Call.{Call as Kind};
@@ -7,7 +7,7 @@ ghost use Rattle.run_rules.specs.Disk.{Disk};
 ghost use Rattle.redo_log.specs.Told.{NoneFails};
 ghost use Rattle.page_store.specs.declared.fault.RedoFault.TheVariants.{Failed as failed, NoMemory as no_memory};
 ghost use Rattle.partition_redo.specs.Index.{base_of, ranges_of};
-ghost use Rattle.partition_redo.specs.Chains.{AllStand, IsStoredOne, AreAll, IsChain, IsRedone, IsGiven, IsListed, AnswersStored, NamesOther, NamesFirst, NamesRead, first_bad};
+ghost use Rattle.partition_redo.specs.Chains.{AllStand, IsStoredOne, AreAll, IsChain, IsNewer, IsRedone, IsGiven, IsListed, AnswersStored, NamesOther, NamesFirst, NamesRead, first_bad, written_pages};
 
 use crate::index::Index;
 use crate::planned::Planned;
@@ -121,6 +121,28 @@ fn versions_of(alloc: Global, chains: &[Chain]) -> Result<Vec<(PageNo, Version)>
     Ok(versions)
 }
 
+/// The pages of the chains that have entries.
+fn writes_of(alloc: Global, chains: &[Chain]) -> Result<Vec<PageNo>, NoMemory>
+    ensures { IfOk result (λ ps. ps.items ≡ written_pages chains.now) }
+{
+    let mut pages = Vec::new(alloc);
+    for chain in chains {
+        add_write(&mut pages, chain)?;
+    }
+    Ok(pages)
+}
+
+/// Adds the page of a chain, where that has entries.
+fn add_write(pages: &mut Vec<PageNo>, chain: &Chain) -> Result<(), NoMemory>
+    ensures { OnOk result (pages.new.items ≡ pages.old.items ++ written_pages (chain.now ∷ [])) }
+{
+    if chain.sites.is_empty() {
+        return Ok(());
+    }
+    pages.push(chain.page)?;
+    Ok(())
+}
+
 /// Plans the redo of some pages: it reads their stored pages and walks all logs, takes all memory
 /// that the redo needs, and writes nothing. Pages are below `P`.
 ///
@@ -138,6 +160,7 @@ pub fn prepare<S: Storage>(
     requires by { by < config.now.nodes }
     requires below { All (λ p. p < config.now.pages) pages.now.items }
     ensures chains { IfOk result (λ plan. (d : Disk) → S.pages s.old ≡ Some d.pages → S.logs s.old ≡ Some d.logs → AllByRecursion (IsChain config.now d) plan.chains) }
+    ensures newer { IfOk result (λ plan. (d : Disk) → S.pages s.old ≡ Some d.pages → S.logs s.old ≡ Some d.logs → AllByRecursion (IsNewer d) plan.chains) }
     ensures redone { IfOk result (λ plan. (d : Disk) → S.pages s.old ≡ Some d.pages → S.logs s.old ≡ Some d.logs → AreAll (IsRedone config.now d) pages.now.items plan.versions) }
     ensures stand { IfOk result (λ plan. (d : Disk) → S.logs s.old ≡ Some d.logs → AllStand config.now d plan.chains) }
     ensures below { IfOk result (λ plan. AllByRecursion (λ x. x.page < config.now.pages) plan.chains) }
@@ -194,10 +217,12 @@ fn make_plan(
 {
     let chains = chains_of(alloc, index, pages)?;
     let versions = versions_of(alloc, chains.as_slice())?;
+    let writes = writes_of(alloc, chains.as_slice())?;
     Ok(Planned {
         config: *config,
         by,
         versions,
+        writes,
         chains,
         raw,
     })

@@ -6,7 +6,7 @@ ghost use Rattle.disk_model.specs.Disk.{HasSizes};
 ghost use Rattle.run_rules.specs.Disk.{Disk, raw_page};
 ghost use Rattle.run_rules.specs.Redo.{all_records, redo as redo_of};
 ghost use Rattle.redo_log.specs.Told.{NoneFails};
-ghost use Rattle.partition_redo.specs.Chains.{AllStand, IsChain, IsRedoCall};
+ghost use Rattle.partition_redo.specs.Chains.{AllStand, IsChain, IsRedoCall, written_pages};
 ghost use Rattle.partition_redo.specs.Writes.{Ran, redo_pages, with_pages, IsStored, AreEither};
 
 use crate::apply::apply_chains;
@@ -21,6 +21,7 @@ pub struct Planned {
     pub(crate) config: Config,
     pub(crate) by: NodeNo,
     pub(crate) versions: Vec<(PageNo, Version)>,
+    pub(crate) writes: Vec<PageNo>,
     pub(crate) chains: Items<Chain>,
     /// A stored page.
     pub(crate) raw: Vec<u8>,
@@ -29,13 +30,13 @@ pub struct Planned {
 impl Model for Planned {
     ghost use Rattle.std.specs.Prelude.{◌≡◌, ◌+◌, ◌<◌, length};
     ghost use Rattle.std.specs.List.{AllByRecursion};
-    ghost use Rattle.partition_redo.specs.Chains.{PlannedView};
+    ghost use Rattle.partition_redo.specs.Chains.{PlannedView, written_pages};
 
     ghost Value = { PlannedView };
 
     ghost view = { λ p. record { config = p.config; by = p.by; versions = p.versions.items; chains = p.chains } };
 
-    ghost invariant = { λ p. (length p.raw.items ≡ p.config.size + 16) × (p.by < p.config.nodes) × AllByRecursion (λ x. x.page < p.config.pages) p.chains };
+    ghost invariant = { λ p. (length p.raw.items ≡ p.config.size + 16) × (p.by < p.config.nodes) × AllByRecursion (λ x. x.page < p.config.pages) p.chains × (p.writes.items ≡ written_pages p.chains) };
 }
 
 impl Planned {
@@ -46,7 +47,15 @@ impl Planned {
         self.versions.as_slice()
     }
 
-    /// The same, where the plan is of no more use.
+    /// The pages that `apply` writes, in the order given: those that the logs have newer than what is
+    /// stored.
+    pub fn writes(&self) -> &[PageNo]
+        ensures { result.now ≡ written_pages self.now.chains }
+    {
+        self.writes.as_slice()
+    }
+
+    /// The same as `versions`, where the plan is of no more use.
     pub(crate) fn into_versions(self) -> Vec<(PageNo, Version)>
         ensures { result.items ≡ self.versions }
     {

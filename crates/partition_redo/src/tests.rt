@@ -77,6 +77,7 @@ fn a_plan_writes_nothing_until_it_is_applied(rt: HostRuntime) -> Result<(), Fail
         return Err(Fail::from("no plan"));
     };
     assert_eq!(rt; plan.versions(), [(1, 0), (0, 4)].as_slice());
+    assert_eq!(rt; plan.writes(), [0].as_slice());
     assert_eq!(rt; storage.writes, 0);
     assert_eq!(rt; plan.apply(&mut storage), Ok(()));
     assert_eq!(rt; storage.writes, 1);

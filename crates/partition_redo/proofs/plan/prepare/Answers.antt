@@ -4,7 +4,7 @@ use Rattle.partition_redo.specs.Index.{IndexView, NotedView, base_of, ranges_of,
 use Rattle.partition_redo.specs.Chains.{AreAll, AreChains, IsGiven, IsListed, IsRedone, IsStoredOne}
 use Rattle.partition_redo.proofs.Leading.{by_recursion}
 use Rattle.partition_redo.proofs.Standing.{AreSites, first_sites, log_sites, given_stand, given_pages, pages_below}
-use Rattle.partition_redo.proofs.Plans.{IsFull, count_all, given_are_chains, are_all_chains, are_chains, chains_redone, versions_named}
+use Rattle.partition_redo.proofs.Plans.{IsFull, count_all, given_are_chains, given_are_newer, are_all_chains, are_chains, chains_redone, versions_named}
 use Rattle.partition_redo.proofs.plan.prepare.Goals as goal
 
 pub returns-in-Ok-clause-chains : goal.returns-in-Ok-clause-chains
@@ -22,6 +22,22 @@ returns-in-Ok-clause-chains g c = λ d pages logs.
     let listed = subst (λ (ps : List ℕ). (k : ℕ) → k < length ps → IsListed d i (slice_index ps k)) first (λ k inside. c.in_ok-list_pages.ensures.listed d k pages inside) in
     let given : AreAll (IsGiven j) c.args.pages.now.items c.in-Ok.plan.chains = subst (λ (ps : List ℕ). AreAll (IsGiven j) ps c.in-Ok.plan.chains) c.as_slice-2.ensures.value c.in-Ok.ensures.given in
     are_all_chains c.args.config.now d c.args.pages.now.items c.in-Ok.plan.chains (given_are_chains c.args.config.now d i j c.args.pages.now.items c.in-Ok.plan.chains full listed given)
+
+pub returns-in-Ok-clause-newer : goal.returns-in-Ok-clause-newer
+returns-in-Ok-clause-newer g c = λ d pages logs.
+    let i : IndexView = c.list_pages.new.index in
+    let j : IndexView = c.index_logs.new.index in
+    let told : g.S.Storage.logs c.list_pages.new.s ≡ Some d.logs = c.in_ok-list_pages.ensures.logs ∙ logs in
+    let full : IsFull c.args.config.now d i j =
+    record {
+      known_is = λ p v. c.in_ok-index_logs.ensures.known d p v told;
+      none_yet = λ p v. ap (λ (r : NotedView). noted_in r p v) c.in_ok-list_pages.ensures.ranges ∙ c.new-index.ensures.ranges p v;
+      versions = λ n less. c.in_ok-index_logs.ensures.versions d n told less;
+    } in
+    let first : c.as_slice.result.now ≡ c.args.pages.now.items = c.as_slice.ensures.value in
+    let listed = subst (λ (ps : List ℕ). (k : ℕ) → k < length ps → IsListed d i (slice_index ps k)) first (λ k inside. c.in_ok-list_pages.ensures.listed d k pages inside) in
+    let given : AreAll (IsGiven j) c.args.pages.now.items c.in-Ok.plan.chains = subst (λ (ps : List ℕ). AreAll (IsGiven j) ps c.in-Ok.plan.chains) c.as_slice-2.ensures.value c.in-Ok.ensures.given in
+    given_are_newer c.args.config.now d i j c.args.pages.now.items c.in-Ok.plan.chains full listed given
 
 pub returns-in-Ok-clause-listed : goal.returns-in-Ok-clause-listed
 returns-in-Ok-clause-listed g c = given_pages c.index_logs.new.index c.as_slice-2.result.now c.in-Ok.plan.chains c.in-Ok.ensures.given ∙ c.as_slice-2.ensures.value
