@@ -13,6 +13,7 @@ ghost use Rattle.node_rules.specs.OwnerRule.{copy_part, grant_own, carry_out};
 ghost use Rattle.page_owner.specs.Carry.{HasMemory, UsesOne, UsesMany, SameNode, work_with, halted_by, fault_of, IsReadHalt};
 ghost use Rattle.node_parts.specs.Comes.{Comes};
 ghost use Rattle.home.specs.Grants.{IsReadFault};
+ghost use Rattle.home.specs.Moves.{MoveListView, Lists};
 
 use disk_model::Storage;
 use home::{Home, HomeFault};
@@ -52,6 +53,7 @@ pub fn carry<S: Storage>(
     requires size { home.old.config.size ≤ stock.old.size }
     ensures told { (n : NodeState) (ps : List (List ℕ)) (cs : List DiskCall) → n.epoch ≡ at.epoch → S.pages s.old ≡ Some ps → Comes (carry_out at.page at.version decision (work_with n home.old ps cs out.old)) result (work_with n home.new ps cs out.new) }
     ensures same { SameNode home.old home.new }
+    ensures listed { (list : MoveListView) → Lists list home.old → Lists list home.new }
     ensures used { UsesOne stock.old stock.new out.old out.new }
     ensures fault { IfErr result IsReadHalt }
     ensures pages { S.pages s.new ≡ S.pages s.old }
@@ -110,6 +112,7 @@ fn grant_own<S: Storage>(
     requires room { 1 ≤ out.old.reply_room }
     ensures told { (n : NodeState) (ps : List (List ℕ)) (cs : List DiskCall) → S.pages s.old ≡ Some ps → Comes (grant_own (waits_as (pending_of home.old.txs tx) at.page mode) tx mode at.page at.version (work_with n home.old ps cs out.old)) result (work_with n home.new ps cs out.new) }
     ensures same { SameNode home.old home.new }
+    ensures listed { (list : MoveListView) → Lists list home.old → Lists list home.new }
     ensures reply_room { out.old.reply_room ≤ out.new.reply_room + 1 }
     ensures send_room { out.new.send_room ≡ out.old.send_room }
     ensures fault { IfErr result IsReadHalt }

@@ -14,7 +14,7 @@ mod take;
 mod tests;
 
 pub use arrive::{take_grant, take_revoke};
-pub use carry::{OwnPage, carry_all};
+pub use carry::{OwnPage, carry as carry_one, carry_all};
 pub use deliver::{deliver_other, judge, work_off};
 pub use enter::{enter_among, enter_planned, prepare};
 pub use plans::{plan_release, plan_request, plan_return};
