@@ -28,7 +28,7 @@ use Rattle.home_laws.proofs.Unpins.{times}
 use Rattle.home_laws.proofs.Runs.{written_runs}
 use Rattle.home_laws.proofs.Written.{times_more, of_each}
 use Rattle.home_laws.proofs.Records.{record_is_sound_law}
-use Rattle.single_laws.proofs.Patches.{Outside, patched}
+use Rattle.written_laws.proofs.Patches.{Outside, patched}
 use Rattle.single_laws.proofs.Working.{next_base}
 use Rattle.single_laws.proofs.Redone.{Redone, Says, Nothing, Next, redone_same, redone_forced}
 use Rattle.single_laws.proofs.Pages.{at}

@@ -1,4 +1,3 @@
-pub mod Patches
 pub mod Working
 pub mod Told
 pub mod Stored

@@ -1,0 +1,11 @@
+#![tactic(auto)]
+
+//! What a transaction wrote of a page, over the definitions alone: its private copy differs from the page
+//! before within the noted runs alone, so what a commit logs of them gives the private copy again. Each law
+//! is the clause of a function that does nothing.
+
+mod laws;
+mod rows;
+
+pub use laws::{logged_is_put, nothing_differs, piece_differs, piece_is_put};
+pub use rows::row_of_runs;
