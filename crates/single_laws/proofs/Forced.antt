@@ -1,11 +1,9 @@
 -- The record of a commit of a node alone: redo of each page gives the next base.
-use Rattle.std.proofs.Common.{◌≡◌, refl, sym, ap, subst, ◌∙◌, ℕ, suc, ◌+◌, ◌<◌, ◌≤◌, ◌==◌, Bool, true, false, List, [], ◌∷◌, length, map, None, Some, is_some, arith}
-use Rattle.std.specs.Prelude.{Option, ◌≢◌}
-use Rattle.std.specs.List.{AllByRecursion, Contains}
+use Rattle.std.proofs.Common.{◌≡◌, refl, sym, ap, subst, ◌∙◌, ℕ, ◌+◌, ◌<◌, ◌≤◌, ◌==◌, Bool, true, false, List, [], length, None, Some, is_some, arith}
+use Rattle.std.specs.Prelude.{Option}
 use Rattle.std.proofs.lemmas.Bool.Decides.{nat_tests}
 use Rattle.pcl_base.specs.Limits.{Sizes}
 use Rattle.pcl_base.specs.declared.tx.TxId.{TxId}
-use Rattle.pcl_base.specs.declared.log.Logged.{Logged}
 use Rattle.text_rules.specs.ChangedRanges.{put_ranges}
 use Rattle.text_rules.specs.LogRecord.{record_bytes, IsRecord}
 use Rattle.text_rules.specs.StoredPage.{PageAt}
@@ -22,48 +20,20 @@ use Rattle.node_rules.specs.EndRule.{pages_written, logged, ranges_of, new_bytes
 use Rattle.redo_laws.specs.Words.{HasNumbers}
 use Rattle.redo_laws.specs.Laws.{CanBeWritten}
 use Rattle.home_laws.specs.Homes.{AreRuns, is_exclusive_lock}
-use Rattle.home_laws.proofs.Tests.{number_equal, none_there}
+use Rattle.home_laws.proofs.Tests.{none_there}
 use Rattle.home_laws.proofs.Serials.{one_if}
 use Rattle.home_laws.proofs.Unpins.{times}
 use Rattle.home_laws.proofs.Runs.{written_runs}
-use Rattle.home_laws.proofs.Written.{times_more, of_each}
+use Rattle.home_laws.proofs.Written.{of_each}
 use Rattle.home_laws.proofs.Records.{record_is_sound_law}
 use Rattle.written_laws.proofs.Patches.{Outside, patched}
 use Rattle.single_laws.proofs.Working.{next_base}
 use Rattle.single_laws.proofs.Redone.{Redone, Says, Nothing, Next, redone_same, redone_forced}
 use Rattle.single_laws.proofs.Pages.{at}
 use Rattle.single_laws.proofs.Alone.{look_of, Busy, Alone, fresh_work}
-use Rattle.single_laws.proofs.Publishing.{times_look}
+use Rattle.written_laws.proofs.Logging.{none_in, all_of, others_of, there_of}
+use Rattle.written_laws.proofs.Looked.{times_look}
 use Rattle.single_laws.proofs.NextBase.{is_written_page, new_none, new_some, new_fine}
-
--- ---- the pages of a record
-
-none_in : (ps : List ℕ) (p : ℕ) → length ps ≡ 0 → times p ps ≡ 0
-none_in [] p none = refl
-none_in (q ∷ ps) p none = absurd (omega (arith, none))
-
-all_of : (P : Logged → Type 0) (h : HomeState) (t : TxId) (ps : List ℕ) → AllByRecursion (λ p. P (logged h t p)) ps → AllByRecursion P (map (logged h t) ps)
-all_of P h t [] all = tt
-all_of P h t (p ∷ ps) all = (all.0, all_of P h t ps all.1)
-
-others_of : (h : HomeState) (t : TxId) (ps : List ℕ) (p : ℕ) → times p ps ≡ 0 → AllByRecursion (λ x. x.page ≢ p) (map (logged h t) ps)
-others_of h t [] p none = tt
-others_of h t (q ∷ ps) p none =
-    let count = times_more q p ps in
-    (differs (q == p) refl (omega (arith, count, none)), others_of h t ps p (omega (arith, count, none)))
-  where
-    differs : (b : Bool) → (q == p) ≡ b → one_if b ≡ 0 → q ≢ p
-    differs true e z = absurd (omega (arith, z))
-    differs false e z = λ same. absurd (grind (arith, nat_tests))
-
-there_of : (h : HomeState) (t : TxId) (ps : List ℕ) (p : ℕ) → 1 ≤ times p ps → Contains (map (logged h t) ps) (logged h t p)
-there_of h t [] p some = absurd (omega (arith, some))
-there_of h t (q ∷ ps) p some = by (q == p) refl (times_more q p ps) (there_of h t ps p)
-  where
-    by : (b : Bool) → (q == p) ≡ b → times p (q ∷ ps) ≡ one_if b + times p ps → (1 ≤ times p ps → Contains (map (logged h t) ps) (logged h t p))
-        → Contains (map (logged h t) (q ∷ ps)) (logged h t p)
-    by true e count go = (0, omega arith, ap (logged h t) (number_equal q p e))
-    by false e count go = let rest = go (omega (arith, count, some)) in (suc rest.0, (let inside = rest.1 in omega (arith, inside)), rest.2)
 
 module _ (c : Sizes) (one : c.nodes ≡ 1) (h : HomeState) (tb : LockTable) (d : Disk) (s : Story) (alone : Alone c h tb d s) (t : TxId) (busy : Busy h tb alone.base s t)
     (last : at_version_end h t ≡ false) where

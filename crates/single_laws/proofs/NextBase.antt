@@ -1,8 +1,7 @@
 -- The base that a commit of a node alone makes: each page that was written is as it was left, at the
 -- next version.
-use Rattle.std.proofs.Common.{◌≡◌, refl, sym, ap, subst, ◌∙◌, ℕ, ◌+◌, ◌-◌, ◌^◌, ◌<◌, ◌≤◌, ◌==◌, ◌&&◌, ◌||◌, nat_lt, Bool, true, false, List, [], ◌∷◌, length, None, Some, is_some, arith}
+use Rattle.std.proofs.Common.{◌≡◌, refl, sym, ap, subst, ◌∙◌, ℕ, ◌+◌, ◌-◌, ◌^◌, ◌<◌, ◌==◌, ◌&&◌, nat_lt, Bool, true, false, List, length, None, Some, is_some, arith}
 use Rattle.std.specs.Prelude.{Option, IfSome}
-use Rattle.std.specs.List.{list_any}
 use Rattle.std.proofs.lemmas.Bool.Decides.{nat_tests}
 use Rattle.pcl_base.specs.Limits.{Sizes}
 use Rattle.pcl_base.specs.declared.tx.TxId.{TxId}
@@ -22,30 +21,18 @@ use Rattle.node_rules.specs.AccessRule.{version_or}
 use Rattle.node_rules.specs.EndRule.{pages_written, at_version_end, new_version, new_bytes, change_if, is_own_kind, is_written, is_own_lock}
 use Rattle.node_rules.specs.OwnerRule.{version_of_change}
 use Rattle.home_laws.specs.Homes.{is_exclusive_lock}
-use Rattle.home_laws.proofs.Tests.{number_same, number_equal}
+use Rattle.home_laws.proofs.Tests.{number_same}
 use Rattle.home_laws.proofs.Serials.{one_if}
 use Rattle.home_laws.proofs.Unpins.{times}
-use Rattle.home_laws.proofs.Written.{times_more}
 use Rattle.home_laws.proofs.Pools.{pool_of_home}
 use Rattle.home_laws.proofs.Publishes.{private_sized}
 use Rattle.single_laws.proofs.Working.{after_look, next_base, next_length, next_page, next_past}
 use Rattle.single_laws.proofs.Pages.{IsBase, PageIs, at}
 use Rattle.single_laws.proofs.Entries.{is_taken}
 use Rattle.single_laws.proofs.Alone.{look_of, IsOwn, Busy, Alone}
-use Rattle.single_laws.proofs.Publishing.{written_look, times_look}
+use Rattle.written_laws.proofs.Logging.{none_passes}
+use Rattle.written_laws.proofs.Looked.{written_look, times_look}
 use Rattle.single_laws.proofs.Telling.{ended_version}
-
--- a test that none of some pages passes
-none_passes : (test : ℕ → Bool) (ps : List ℕ) (p : ℕ) → list_any test ps ≡ false → 1 ≤ times p ps → test p ≡ false
-none_passes test [] p none some = absurd (omega (arith, some))
-none_passes test (q ∷ ps) p none some = by (q == p) refl (test q) refl none (times_more q p ps) (none_passes test ps p)
-  where
-    by : (b : Bool) → (q == p) ≡ b → (e : Bool) → test q ≡ e → (e || list_any test ps) ≡ false → times p (q ∷ ps) ≡ one_if b + times p ps
-        → (list_any test ps ≡ false → 1 ≤ times p ps → test p ≡ false) → test p ≡ false
-    by true f true g n count go = absurd (cc)
-    by true f false g n count go = subst (λ x. test x ≡ false) (number_equal q p f) g
-    by false f true g n count go = absurd (cc)
-    by false f false g n count go = go n (omega (arith, count, some))
 
 module _ (c : Sizes) (one : c.nodes ≡ 1) (h : HomeState) (tb : LockTable) (d : Disk) (s : Story) (alone : Alone c h tb d s) (t : TxId) (busy : Busy h tb alone.base s t)
     (last : at_version_end h t ≡ false) where

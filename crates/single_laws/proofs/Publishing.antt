@@ -1,27 +1,25 @@
 -- The copies of a home's buffer when a transaction ends: a written page has the private copy at the
 -- next version, and any other page is as before.
-use Rattle.std.proofs.Common.{◌≡◌, refl, sym, ap, subst, ◌∙◌, ℕ, ◌+◌, ◌≤◌, ◌==◌, ◌&&◌, ◌||◌, cond, Bool, true, false, List, [], ◌∷◌, length, None, Some, is_some, arith}
+use Rattle.std.proofs.Common.{◌≡◌, refl, sym, ap, subst, ◌∙◌, ℕ, ◌+◌, ◌==◌, ◌&&◌, Bool, true, false, List, [], ◌∷◌, None, Some, is_some, arith}
 use Rattle.std.specs.Prelude.{Option, option_map}
-use Rattle.std.specs.List.{filter, fold}
+use Rattle.std.specs.List.{fold}
 use Rattle.std.proofs.lemmas.Bool.Decides.{nat_tests}
 use Rattle.pcl_base.specs.declared.tx.TxId.{TxId}
-use Rattle.node_rules.specs.Words.{pick, same_tx}
+use Rattle.node_rules.specs.Words.{same_tx}
 use Rattle.node_rules.specs.OpenTxs.{held_by, pending_of}
-use Rattle.node_rules.specs.BufferRule.{Pool, Slot, Copy, PrivateCopy, slot_in, copy_at, copy_of_slot, has_private, is_private, private_in, private_at, private_bytes, bytes_of_private, published, publish, discard}
+use Rattle.node_rules.specs.BufferRule.{Pool, Slot, Copy, slot_in, copy_at, copy_of_slot, private_bytes, bytes_of_private, published, publish, discard}
 use Rattle.node_rules.specs.NodeState.{HomeState}
-use Rattle.node_rules.specs.EndRule.{pages_written, pages_at_end, publish_all, discard_all, is_own_lock, is_written, closed}
-use Rattle.home_laws.specs.Homes.{IsHome, is_exclusive_lock, is_write_of}
+use Rattle.node_rules.specs.EndRule.{pages_written, pages_at_end, publish_all, discard_all, is_own_lock, closed}
+use Rattle.home_laws.specs.Homes.{IsHome}
 use Rattle.home_laws.proofs.Tests.{number_equal}
-use Rattle.home_laws.proofs.Covering.{or_false}
 use Rattle.home_laws.proofs.Serials.{one_if}
 use Rattle.home_laws.proofs.Slots.{slot_changed, slot_unchanged}
 use Rattle.home_laws.proofs.Pools.{PoolIs, pool_of_home, all_discarded_is}
-use Rattle.home_laws.proofs.PrivateLooks.{none_of}
 use Rattle.home_laws.proofs.Publishes.{with_published, unpublished}
 use Rattle.home_laws.proofs.EndSteps.{publish_all_follows}
 use Rattle.home_laws.proofs.Unpins.{times, copy_unpins}
-use Rattle.home_laws.proofs.Rising.{any_times}
-use Rattle.home_laws.proofs.Written.{times_more, times_written}
+use Rattle.home_laws.proofs.Written.{times_more}
+use Rattle.written_laws.proofs.Looked.{times_look}
 
 -- ---- one page after the other
 
@@ -83,39 +81,7 @@ copy_once t g (p ∷ ps) b q one = by (p == q) refl (times_more p q ps) (λ rest
 
 -- ---- a transaction that doesn't wait
 
--- a private copy that is there counts
-counted : (t : TxId) (p : ℕ) (xs : List PrivateCopy) → is_some (private_in xs t p) ≡ true → 1 ≤ length (filter (is_private t p) xs)
-unfolding private_in
-counted t p [] e = absurd (cc)
-counted t p (x ∷ xs) e = of (is_private t p x) e (counted t p xs)
-  where
-    of : (b : Bool) → is_some (pick b (Some x) (private_in xs t p)) ≡ true → (is_some (private_in xs t p) ≡ true → 1 ≤ length (filter (is_private t p) xs)) → 1 ≤ length (cond b (x ∷ filter (is_private t p) xs) (filter (is_private t p) xs))
-    of true e go = omega arith
-    of false e go = go e
-
 module _ (h : HomeState) (t : TxId) (home : IsHome h) (waits : pending_of h.txs t ≡ None) where
-  -- it has a private copy, with content, of the pages that it holds exclusively
-  pub private_lock : (p : ℕ) → has_private h.pool t p ≡ is_exclusive_lock (held_by h.txs t p)
-  private_lock p = home.privates t p ∙ ap (λ w. is_exclusive_lock (held_by h.txs t p) || is_write_of w p) waits ∙ or_false (is_exclusive_lock (held_by h.txs t p))
-
-  pub private_look : (p : ℕ) → has_private h.pool t p ≡ is_some (private_bytes h.pool t p)
-  private_look p = private_lock p ∙ sym (home.filled t p)
-
-  -- so often is a page written
-  pub times_look : (p : ℕ) → times p (pages_written h t) ≡ one_if (is_some (private_bytes h.pool t p))
-  times_look p = times_written t p h.pool.privates ∙ by (private_at h.pool t p) refl ∙ ap one_if (private_look p)
-    where
-      by : (o : Option PrivateCopy) → private_at h.pool t p ≡ o → length (filter (is_private t p) h.pool.privates) ≡ one_if (is_some (private_at h.pool t p))
-      by None e = none_of h.pool.privates t p e ∙ sym (ap (λ x. one_if (is_some x)) e)
-      by (Some x) e =
-          let least = counted t p h.pool.privates (ap is_some e) in
-          let most = home.buffer.one_private t p in
-          let same : length (filter (is_private t p) h.pool.privates) ≡ 1 = omega (arith, least, most) in
-          same ∙ sym (ap (λ y. one_if (is_some y)) e)
-
-  pub written_look : (p : ℕ) → is_written h t p ≡ is_some (private_bytes h.pool t p)
-  written_look p = any_times p (pages_written h t) (is_some (private_bytes h.pool t p)) (times_look p)
-
   -- the copies once all is published
   pub copy_published : (p : ℕ) → copy_at (publish_all h t) p ≡ published (is_own_lock (held_by h.txs t p)) (private_bytes h.pool t p) (copy_at h.pool p)
   copy_published p = by (private_bytes h.pool t p) refl
@@ -126,10 +92,10 @@ module _ (h : HomeState) (t : TxId) (home : IsHome h) (waits : pending_of h.txs 
 
       by : (o : Option (List ℕ)) → private_bytes h.pool t p ≡ o → copy_at (publish_all h t) p ≡ published (is_own_lock (held_by h.txs t p)) (private_bytes h.pool t p) (copy_at h.pool p)
       by None e =
-          copy_left t (λ q. is_own_lock (held_by h.txs t q)) (pages_written h t) h.pool p (times_look p ∙ ap (λ o. one_if (is_some o)) e)
+          copy_left t (λ q. is_own_lock (held_by h.txs t q)) (pages_written h t) h.pool p (times_look h t home waits p ∙ ap (λ o. one_if (is_some o)) e)
           ∙ unchanged (is_own_lock (held_by h.txs t p)) (copy_at h.pool p)
           ∙ ap (λ o. published (is_own_lock (held_by h.txs t p)) o (copy_at h.pool p)) (sym e)
-      by (Some bytes) e = copy_once t (λ q. is_own_lock (held_by h.txs t q)) (pages_written h t) h.pool p (times_look p ∙ ap (λ o. one_if (is_some o)) e)
+      by (Some bytes) e = copy_once t (λ q. is_own_lock (held_by h.txs t q)) (pages_written h t) h.pool p (times_look h t home waits p ∙ ap (λ o. one_if (is_some o)) e)
 
   -- and once it is closed
   pub copy_closed : (b : Pool) (p : ℕ) → PoolIs h.config b → copy_at (closed h t b).pool p ≡ copy_at b p

@@ -1,2 +1,4 @@
 pub mod Patches
 pub mod Differing
+pub mod Looked
+pub mod Logging
