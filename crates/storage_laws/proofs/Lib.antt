@@ -3,3 +3,4 @@ pub mod Calls
 pub mod Stops
 pub mod ReadPages
 pub mod Redos
+pub mod AsSteps

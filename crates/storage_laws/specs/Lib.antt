@@ -1,4 +1,5 @@
 pub mod Looks
 pub mod Stored
 pub mod Redone
+pub mod Machine
 pub mod Rows
