@@ -79,9 +79,9 @@ coming_steps_law c e p a b i =
     at_head m o [] h = absurd (cc)
     at_head m o (x ∷ xs) h = let same : x ≡ m = cc in ap (λ (y : Message). y ∷ xs) same
 
-    by : IsLinkStep c e a b now (link_at (step c e).links a b) → IsComingStep c e p a b now (filter (test now) (link_at (step c e).links a b))
+    by : IsLinkStep c e a b (node_at (step c e) a) now (link_at (step c e).links a b) → IsComingStep c e p a b now (filter (test now) (link_at (step c e).links a b))
     by (link_stays is) = count_less (ap (filter (test now)) is ∙ less)
-    by (link_gets s ev plan planned up same is) =
+    by (link_gets s ev plan planned up sender same is) =
         more_come s ev plan planned same
         (ap (λ (o : Option NodeState). filter (test o) (link_at (step c e).links a b)) same
         ∙ ap (filter (test (node_at c b))) is

@@ -4,3 +4,4 @@ pub mod Heads
 pub mod Stepped
 pub mod Nodes
 pub mod Come
+pub mod Rising

@@ -114,19 +114,19 @@ unfolding lose
 links_lost n c = refl
 
 -- a link once a node is lost
-lost_link : (c d : Cluster) (e : Event) (n a b : ℕ) → ((b == n) ≡ false → link_at d.links a b ≡ link_at c.links a b) → IsLinkStep c e a b (node_at (lose n d) b) (link_at (lose n d).links a b)
+lost_link : (c d : Cluster) (e : Event) (n a b : ℕ) → ((b == n) ≡ false → link_at d.links a b ≡ link_at c.links a b) → IsLinkStep c e a b (node_at (lose n d) a) (node_at (lose n d) b) (link_at (lose n d).links a b)
 lost_link c d e n a b old = by (b == n) refl
   where
     at : link_at (lose n d).links a b ≡ pick (b == n) [] (link_at d.links a b)
     at = ap (λ (ls : Links). link_at ls a b) (links_lost n d) ∙ cleared_links_law d.links n a b
 
-    by : (t : Bool) → (b == n) ≡ t → IsLinkStep c e a b (node_at (lose n d) b) (link_at (lose n d).links a b)
+    by : (t : Bool) → (b == n) ≡ t → IsLinkStep c e a b (node_at (lose n d) a) (node_at (lose n d) b) (link_at (lose n d).links a b)
     by true t = link_cleared (lost_now n b d t) (at ∙ ap (λ (x : Bool). pick x [] (link_at d.links a b)) t)
     by false t = link_stays (at ∙ ap (λ (x : Bool). pick x [] (link_at d.links a b)) t ∙ old t)
 
 -- a link after a step of a node
 stepped_link : (c : Cluster) (e : Event) (n : ℕ) (s : NodeState) (ev : NodeEvent) (a b : ℕ) → IsCluster c → IsHanded c e n s ev
-    → IsLinkStep c e a b (node_at (node_step e n s ev c) b) (link_at (node_step e n s ev c).links a b)
+    → IsLinkStep c e a b (node_at (node_step e n s ev c) a) (node_at (node_step e n s ev c) b) (link_at (node_step e n s ev c).links a b)
 unfolding node_step
 stepped_link c e n s ev a b i h = by (nodestep s ev c.disk) refl
   where
@@ -138,7 +138,7 @@ stepped_link c e n s ev a b i h = by (nodestep s ev c.disk) refl
         of true u d = let same = (handed_head c e a b n s ev i (delivers_is e a b d) h).1 in absurd (grind (arith, nat_tests, other, same))
         of false u d = refl
 
-    whole : (p : Plan) → IsPlanned c e n s ev p → IsLinkStep c e a b (node_at (made e n p c) b) (link_at (made e n p c).links a b)
+    whole : (p : Plan) → IsPlanned c e n s ev p → IsLinkStep c e a b (node_at (made e n p c) a) (node_at (made e n p c) b) (link_at (made e n p c).links a b)
     whole p planned = with_head (delivers e a b) (is_taken p.replies) refl refl
       where
         known : n < c.config.nodes
@@ -152,8 +152,8 @@ stepped_link c e n s ev a b i h = by (nodestep s ev c.disk) refl
             links_of_made_law c e n s ev p a b i planned
             ∙ ap (λ (ms : List Message). ms ++ pick (a == n && is_up c b) (sent_to b p.sends) []) (heads_after_law e p.replies c.links a b)
 
-        acting : b ≡ n → node_at (made e n p c) b ≡ Some p.node
-        acting same =
+        acting : (b : ℕ) → b ≡ n → node_at (made e n p c) b ≡ Some p.node
+        acting b same =
             subst (λ (k : ℕ). node_at (made e n p c) k ≡ Some p.node) (sym same)
             (set_same None c.nodes n (Some p.node) (subst (λ (k : ℕ). n < k) (sym i.nodes) known))
 
@@ -164,10 +164,10 @@ stepped_link c e n s ev a b i h = by (nodestep s ev c.disk) refl
         -- nothing is taken
         sends : (x u y : Bool) → (a == n) ≡ x → is_up c b ≡ u → (b == n) ≡ y
             → link_at (made e n p c).links a b ≡ link_at c.links a b ++ pick (x && u) (sent_to b p.sends) []
-            → IsLinkStep c e a b (node_at (made e n p c) b) (link_at (made e n p c).links a b)
+            → IsLinkStep c e a b (node_at (made e n p c) a) (node_at (made e n p c) b) (link_at (made e n p c).links a b)
         sends true true false q r t is =
             let same = eqb-true a n q in
-            link_gets s ev p (subst (λ (k : ℕ). IsPlanned c e k s ev p) (sym same) planned) r (resting t) is
+            link_gets s ev p (subst (λ (k : ℕ). IsPlanned c e k s ev p) (sym same) planned) r (acting a same) (resting t) is
         sends true true true q r t is =
             let same = eqb-true b n t in
             let none : sent_to b p.sends ≡ [] =
@@ -177,12 +177,12 @@ stepped_link c e n s ev a b i h = by (nodestep s ev c.disk) refl
         sends false u y q r t is = link_stays (is ∙ append-nil (link_at c.links a b))
 
         -- the head is taken, and the receiver sends nothing to itself
-        with_head : (d t : Bool) → delivers e a b ≡ d → is_taken p.replies ≡ t → IsLinkStep c e a b (node_at (made e n p c) b) (link_at (made e n p c).links a b)
+        with_head : (d t : Bool) → delivers e a b ≡ d → is_taken p.replies ≡ t → IsLinkStep c e a b (node_at (made e n p c) a) (node_at (made e n p c) b) (link_at (made e n p c).links a b)
         with_head true true d t =
             let it = delivers_is e a b d in
             let head = handed_head c e a b n s ev i it h in
             let other : (a == n) ≡ false = apart (a == n) refl (λ f. head.0.others (f ∙ head.1)) in
-            link_loses s ev p it (subst (λ (k : ℕ). IsPlanned c e k s ev p) head.1 planned) t (acting (sym head.1))
+            link_loses s ev p it (subst (λ (k : ℕ). IsPlanned c e k s ev p) head.1 planned) t (acting b (sym head.1))
             (links
             ∙ ap (λ (x : Bool). pick (x && is_taken p.replies) (tail_of (link_at c.links a b)) (link_at c.links a b) ++ pick (a == n && is_up c b) (sent_to b p.sends) []) d
             ∙ ap (λ (x : Bool). pick x (tail_of (link_at c.links a b)) (link_at c.links a b) ++ pick (a == n && is_up c b) (sent_to b p.sends) []) t
@@ -202,17 +202,17 @@ stepped_link c e n s ev a b i h = by (nodestep s ev c.disk) refl
             (links
             ∙ ap (λ (x : Bool). pick (x && is_taken p.replies) (tail_of (link_at c.links a b)) (link_at c.links a b) ++ pick (a == n && is_up c b) (sent_to b p.sends) []) d)
 
-    ended : (p : Plan) → nodestep s ev c.disk ≡ Goes p → (o : Option Left) → IsLinkStep c e a b (node_at (made_or_halted e n p o c) b) (link_at (made_or_halted e n p o c).links a b)
+    ended : (p : Plan) → nodestep s ev c.disk ≡ Goes p → (o : Option Left) → IsLinkStep c e a b (node_at (made_or_halted e n p o c) a) (node_at (made_or_halted e n p o c) b) (link_at (made_or_halted e n p o c).links a b)
     ended p goes None = whole p (record { handed = h; goes = goes })
     ended p goes (Some l) = lost_link c (record c { disk = l.disk; links = links_after e [] c.links }) e n a b (untouched [])
 
-    by : (o : Outcome Plan) → nodestep s ev c.disk ≡ o → IsLinkStep c e a b (node_at (after_plan e n c o) b) (link_at (after_plan e n c o).links a b)
+    by : (o : Outcome Plan) → nodestep s ev c.disk ≡ o → IsLinkStep c e a b (node_at (after_plan e n c o) a) (node_at (after_plan e n c o) b) (link_at (after_plan e n c o).links a b)
     by (Goes p) goes = ended p goes (left_of n c.disk p.calls (stop_at c n))
     by (Differs p expected found) goes = lost_link c c e n a b (λ other. refl)
 
 pub links_step_law : LinksStep
 links_step_law c e a b i =
-    by_step (λ d. IsLinkStep c e a b (node_at d b) (link_at d.links a b)) c e
+    by_step (λ d. IsLinkStep c e a b (node_at d a) (node_at d b) (link_at d.links a b)) c e
     (record {
       refused = λ r. link_stays refl;
       crashed = λ n is. lost_link c c e n a b (λ other. refl);
@@ -235,9 +235,9 @@ in_one (x ∷ xs) ns m (inr at) = ⊎_elim (λ a. inl (inr a)) (λ b. inr b) (in
 pub messages_come_from_law : MessagesComeFrom
 messages_come_from_law c e a b m i at = by (links_step_law c e a b i)
   where
-    by : IsLinkStep c e a b (node_at (step c e) b) (link_at (step c e).links a b) → Stands (link_at c.links a b) m ⊎ IsSentNow c e a b m
+    by : IsLinkStep c e a b (node_at (step c e) a) (node_at (step c e) b) (link_at (step c e).links a b) → Stands (link_at c.links a b) m ⊎ IsSentNow c e a b m
     by (link_stays is) = inl (subst (λ (ms : List Message). Stands ms m) is at)
-    by (link_gets s ev p planned up now is) =
+    by (link_gets s ev p planned up sender now is) =
         ⊎_elim (λ old. inl old) (λ new. inr (record { state = s; event = ev; plan = p; planned = planned; up = up; sent = new }))
         (in_one (link_at c.links a b) (sent_to b p.sends) m (subst (λ (ms : List Message). Stands ms m) is at))
     by (link_loses s ev p it planned taken now is) = inl (in_tail (link_at c.links a b) m (subst (λ (ms : List Message). Stands ms m) is at))

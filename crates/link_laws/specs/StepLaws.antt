@@ -1,5 +1,5 @@
 -- What a step of a cluster does to a node, to a link, and to the messages of a page on it that count.
-use Rattle.std.specs.Prelude.{◌≡◌, ◌⊎◌, ℕ, ◌==◌, ◌&&◌, true, List, [], ◌∷◌, ◌++◌, Option, Some, None}
+use Rattle.std.specs.Prelude.{◌≡◌, ◌⊎◌, ℕ, ◌<◌, ◌==◌, ◌&&◌, true, List, [], ◌∷◌, ◌++◌, Option, Some, None}
 use Rattle.std.specs.List.{filter, AllByRecursion}
 use Rattle.pcl_base.specs.declared.event.Event.{Event}
 use Rattle.pcl_base.specs.declared.event.Event.TheVariants as event
@@ -11,6 +11,7 @@ use Rattle.node_rules.specs.NodeStep.{Plan, nodestep}
 use Rattle.cluster_rules.specs.Clusters.{Cluster, node_at, is_up, last_view}
 use Rattle.cluster_rules.specs.ClusterStep.{is_taken, links_after, made, step}
 use Rattle.cluster_rules.specs.Links.{link_at, tail_of}
+use Rattle.cluster_laws.specs.Epochs.{StaysInView}
 use Rattle.cluster_laws.specs.Handed.{IsHanded}
 use Rattle.cluster_laws.specs.Sound.{IsOnLink, IsCluster}
 use Rattle.link_laws.specs.Coming.{is_coming, coming, sent_to, Stands}
@@ -42,20 +43,26 @@ pub data IsNodeStep (c : Cluster) (e : Event) (n : ℕ) (now : Option NodeState)
 abbrev pub NodesStep : Type 0
 NodesStep = (c : Cluster) (e : Event) (n : ℕ) → IsCluster c → IsNodeStep c e n (node_at (step c e) n)
 
--- What becomes of the link from a to b where b is `now` afterwards. It is as it was. Or a sends to b, which
+-- the epoch of a node doesn't fall, and rises where it installs a view
+abbrev pub EpochsGoOn : Type 0
+EpochsGoOn =
+    (c : Cluster) (e : Event) (n : ℕ) (s : NodeState) (ev : NodeEvent) (p : Plan) → IsCluster c → IsPlanned c e n s ev p
+    → StaysInView s p.node ⊎ (s.epoch < p.node.epoch)
+
+-- What becomes of the link from a to b where a is `from` and b is `now` afterwards. It is as it was. Or a sends to b, which
 -- is up. Or b takes the head. Or it is empty, as b is lost.
-pub data IsLinkStep (c : Cluster) (e : Event) (a b : ℕ) (now : Option NodeState) (ms : List Message) : Type 0 where
-  link_stays : ms ≡ link_at c.links a b → IsLinkStep c e a b now ms
-  link_gets : (s : NodeState) (ev : NodeEvent) (p : Plan) → IsPlanned c e a s ev p → is_up c b ≡ true → now ≡ node_at c b
-      → ms ≡ link_at c.links a b ++ sent_to b p.sends → IsLinkStep c e a b now ms
+pub data IsLinkStep (c : Cluster) (e : Event) (a b : ℕ) (from now : Option NodeState) (ms : List Message) : Type 0 where
+  link_stays : ms ≡ link_at c.links a b → IsLinkStep c e a b from now ms
+  link_gets : (s : NodeState) (ev : NodeEvent) (p : Plan) → IsPlanned c e a s ev p → is_up c b ≡ true → from ≡ Some p.node → now ≡ node_at c b
+      → ms ≡ link_at c.links a b ++ sent_to b p.sends → IsLinkStep c e a b from now ms
   link_loses : (s : NodeState) (ev : NodeEvent) (p : Plan) → e ≡ event.Deliver a b → IsPlanned c e b s ev p → is_taken p.replies ≡ true → now ≡ Some p.node
-      → ms ≡ tail_of (link_at c.links a b) → IsLinkStep c e a b now ms
-  link_cleared : now ≡ None → ms ≡ [] → IsLinkStep c e a b now ms
+      → ms ≡ tail_of (link_at c.links a b) → IsLinkStep c e a b from now ms
+  link_cleared : now ≡ None → ms ≡ [] → IsLinkStep c e a b from now ms
 
 -- a step on any event
 abbrev pub LinksStep : Type 0
 LinksStep =
-    (c : Cluster) (e : Event) (a b : ℕ) → IsCluster c → IsLinkStep c e a b (node_at (step c e) b) (link_at (step c e).links a b)
+    (c : Cluster) (e : Event) (a b : ℕ) → IsCluster c → IsLinkStep c e a b (node_at (step c e) a) (node_at (step c e) b) (link_at (step c e).links a b)
 
 -- What becomes of the messages of a page that come from a to b: those that still count are there, in their
 -- order. Or a sends further ones. Or b takes the head of the link, which may be one of them.

@@ -21,6 +21,6 @@ pub use orders::{
     some_of_the_same, some_without_head,
 };
 pub use steps::{
-    coming_steps, links_of_made, links_step, messages_come_from, nodes_step, sent_are_of_epoch,
-    sizes_stay,
+    coming_steps, epochs_go_on, links_of_made, links_step, messages_come_from, nodes_step,
+    opening_is_in_order, sent_are_of_epoch, sizes_stay, steps_keep_order,
 };

@@ -1,6 +1,7 @@
 //! Laws of a step of a cluster.
 
-ghost use Rattle.link_laws.specs.StepLaws.{SizesStay, LinksOfMade, NodesStep, LinksStep, ComingSteps, MessagesComeFrom, SentAreOfEpoch};
+ghost use Rattle.link_laws.specs.StepLaws.{SizesStay, LinksOfMade, NodesStep, LinksStep, ComingSteps, MessagesComeFrom, SentAreOfEpoch, EpochsGoOn};
+ghost use Rattle.link_laws.specs.EpochLaws.{OpeningIsInOrder, StepsKeepOrder};
 
 /// A step keeps the sizes of the cluster.
 pub fn sizes_stay()
@@ -38,4 +39,20 @@ pub fn messages_come_from()
 /// What a node sends to another may go on the link between them, and is of the epoch that the node is at then.
 pub fn sent_are_of_epoch()
     ensures { SentAreOfEpoch }
+{}
+
+/// A node keeps its epoch and its view through its step, or its epoch rises.
+pub fn epochs_go_on()
+    ensures { EpochsGoOn }
+{}
+
+/// In the opening cluster no message is on a link, so all are in order.
+pub fn opening_is_in_order()
+    ensures { OpeningIsInOrder }
+{}
+
+/// A step on any event keeps the order of links: no epoch falls along a link, and none is above that of a
+/// sender which is up.
+pub fn steps_keep_order()
+    ensures { StepsKeepOrder }
 {}
