@@ -2,3 +2,4 @@ pub mod Looks
 pub mod Adds
 pub mod Tells
 pub mod Commit
+pub mod Machine

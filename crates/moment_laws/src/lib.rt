@@ -8,6 +8,7 @@
 
 mod adds;
 mod commit;
+mod machine;
 mod rows;
 mod tells;
 
@@ -16,5 +17,6 @@ pub use commit::{
     commit_runs, now_begins, now_has_all_pages, now_has_pages, now_is_serial, pages_are_now,
     writes_are_left,
 };
+pub use machine::{commits_are_committing, reads_are_reading, writes_are_writing};
 pub use rows::{row_of_accesses, row_of_now};
 pub use tells::{ask_tells, commit_tells, empty_tells, nothing_tells, read_tells, write_tells};
