@@ -1,0 +1,6 @@
+pub mod Alike
+pub mod Copies
+pub mod Accessing
+pub mod Granting
+pub mod Closing
+pub mod Turning
