@@ -1,5 +1,5 @@
 -- Redo of the rules is that of the machine of one page.
-use Rattle.std.proofs.Common.{inl, inr, ◌≡◌, ◌⊎◌, refl, sym, ap, subst, ◌∙◌, ℕ, zero, suc, ◌+◌, ◌<◌, ◌≤◌, ◌==◌, ◌&&◌, ◌||◌, nat_lt, Bool, true, false, List, [], ◌∷◌, ◌++◌, length, Option, Some, None, option_map, arith, append_assoc, take, drop}
+use Rattle.std.proofs.Common.{inl, inr, ◌≡◌, ◌⊎◌, refl, sym, ap, subst, ◌∙◌, ℕ, zero, suc, ◌+◌, ◌<◌, ◌≤◌, ◌==◌, ◌||◌, nat_lt, Bool, true, false, List, [], ◌∷◌, ◌++◌, length, Option, Some, None, option_map, arith, append_assoc, take, drop}
 use Rattle.std.specs.Prelude.{slice_index_or}
 use Rattle.std.specs.List.{AllByRecursion, Contains}
 use Rattle.std.proofs.lemmas.Bool.Decides.{nat_tests}
@@ -11,13 +11,9 @@ use Rattle.pcl_base.specs.declared.log.Part.TheVariants.{Image, Ranges as PartRa
 use Rattle.text_rules.specs.ChangedRanges.{put_ranges}
 use Rattle.text_rules.specs.LogRecord.{records_of, is_whole}
 use Rattle.text_rules.specs.StoredPage.{PageAt}
-use Rattle.run_rules.specs.Base.{BasePage, Base, version_at, bytes_at}
 use Rattle.run_rules.specs.Disk.{Disk, raw_page, log_at}
-use Rattle.run_rules.specs.Durable.{is_page_of, first_lost, fault_against, durable_fault}
 use Rattle.run_rules.specs.Redo.{entries_of, newer, newest_image, ranges_or, ranges_at, reached, redone, redone_if, greatest, records_in, all_records, redo}
 use Rattle.run_rules.specs.Views.{count_from}
-use Rattle.run_rules.specs.Words.{pick as pick_rule, same_bytes}
-use Rattle.std.specs.Cmp.Lexicographic.{bytes_decides}
 use Rattle.redo_laws.specs.Laws.{IsGreatest}
 use Rattle.redo_laws.proofs.Chains.{above_most, reached_none, reached_some, reached_zero, reached_last}
 use Rattle.redo_laws.proofs.Disks.{entries_append}
@@ -26,7 +22,7 @@ use Rattle.page_protocol.specs.Bytes.{Copy, Ranges, put_all}
 use Rattle.page_protocol.specs.Laws.{Redo, stored, replayed}
 use Rattle.page_protocol.specs.State.{pick, current}
 use Rattle.storage_laws.specs.Looks.{page_of, copy_of, copy_on, pairs_of, ranges_of_part, ranges_in, entries_at, AreRising, IsStored, is_among, only}
-use Rattle.storage_laws.specs.Redone.{RangesArePut, RedoEnds, RedoneIsReached, RedoIsReached, RedoneIsCurrent, HaveRecord, TellsNext, GreatestTellsNext, KeptIsDurable}
+use Rattle.storage_laws.specs.Redone.{RangesArePut, RedoEnds, RedoneIsReached, RedoIsReached, RedoneIsCurrent, HaveRecord, TellsNext, GreatestTellsNext}
 use Rattle.storage_laws.proofs.Entries.{first_of, ranges_joined}
 use Rattle.storage_laws.proofs.Calls.{read_as}
 
@@ -279,32 +275,3 @@ redone_is_current_law c d p a count is durable = (same, ap (redone_if (all_recor
 
     same : redone (all_records c d) p (page_of a.disk) ≡ page_of (current a)
     same = ap page_of (durable.1 (copy_of (redone (all_records c d) p (page_of a.disk))) out.reached out.ends)
-
--- ---- durable
-
-same_test : (xs : List ℕ) → same_bytes xs xs ≡ true
-same_test xs = (bytes_decides xs xs).1 refl
-
-both_true : (a b : Bool) → a ≡ true → b ≡ true → (a && b) ≡ true
-both_true true b e f = f
-both_true false b e f = e
-
-none_lost : (c : Sizes) (d : Disk) (base : Base) (n a : ℕ) → ((p : ℕ) → a ≤ p → p < a + n → redo c d p ≡ Some (record { version = version_at base p; bytes = bytes_at base p }))
-    → first_lost c d base (count_from a n) ≡ None
-unfolding first_lost count_from
-none_lost c d base zero a each = refl
-none_lost c d base (suc n) a each =
-    let version : (version_at base a == version_at base a) ≡ true = grind (arith, nat_tests) in
-    ap (λ (o : Option PageAt). pick_rule (is_page_of base a o) (first_lost c d base (count_from (a + 1) n)) (Some a)) (each a (omega arith) (omega arith))
-    ∙ ap (λ b. pick_rule b (first_lost c d base (count_from (a + 1) n)) (Some a)) (both_true (version_at base a == version_at base a) _ version (same_test (bytes_at base a)))
-    ∙ none_lost c d base n (a + 1) (λ p low high. each p (omega (arith, low)) (omega (arith, high)))
-
-pub kept_is_durable_law : KeptIsDurable
-unfolding durable_fault
-kept_is_durable_law c trace d base count known kept =
-    ap (fault_against c d) known
-    ∙ none_lost c d base c.pages 0
-    (λ p low high.
-    let one = kept p (omega (arith, high)) in
-    (redone_is_current_law c d p one.page count one.stored one.durable).1
-    ∙ ap (λ (x : BasePage). let o : Option PageAt = Some (record { version = x.version; bytes = x.bytes }) in o) (sym one.current_is))
