@@ -1,0 +1,16 @@
+pub mod Births
+pub mod Completed
+pub mod Done
+pub mod Filtered
+pub mod Gathered
+pub mod Kept
+pub mod Listing
+pub mod Lost
+pub mod Owned
+pub mod Plain
+pub mod Planning
+pub mod Reading
+pub mod Redone
+pub mod Reported
+pub mod Settled
+pub mod Words

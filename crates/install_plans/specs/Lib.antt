@@ -1,0 +1,4 @@
+pub mod Installs
+pub mod Laws
+pub mod Plans
+pub mod Tables
