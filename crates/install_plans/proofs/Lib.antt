@@ -6,6 +6,7 @@ pub mod Gathered
 pub mod Kept
 pub mod Listing
 pub mod Lost
+pub mod Named
 pub mod Owned
 pub mod Plain
 pub mod Planning

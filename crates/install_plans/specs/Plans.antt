@@ -103,6 +103,10 @@ pub record CanRedo (c : Sizes) (me : ℕ) (pages : Pages) (logs : Logs) (r : Pla
   pub stand : (d : Disk) → logs ≡ Some d.logs → AllStand c d r.chains
   pub chains : (d : Disk) → pages ≡ Some d.pages → logs ≡ Some d.logs → AllByRecursion (IsChain c d) r.chains
 
+-- a redo lists pages of a partition alone
+abbrev pub RedoesOwn : Sizes → ℕ → PlannedView → Type 0
+RedoesOwn c q r = AllByRecursion (λ x. IsPageOf c q x.page) r.chains
+
 -- a new table is that of the partition, and its entries are in use
 abbrev pub IsAfter : Sizes → ℕ → TableAfter → Type 0
 IsAfter c q AsBefore = ⊤
@@ -112,6 +116,7 @@ IsAfter c q Gone = ⊤
 -- the plan of a partition can be carried out by a node while pages and logs are these
 pub record Fits (c : Sizes) (me q : ℕ) (pages : Pages) (logs : Logs) (p : PartitionPlan) : Type 0 where
   pub redo : IfSome p.redo (CanRedo c me pages logs)
+  pub own : IfSome p.redo (RedoesOwn c q)
   pub table : IsAfter c q p.table
 
 -- why something wasn't told: memory is wanted, or a call failed that only reads

@@ -17,8 +17,10 @@ mod plan;
 mod planner;
 mod redo;
 mod settling;
+#[cfg(test)]
+mod tests;
 
 pub use due::Due;
 pub use install::{plan_install, plan_report};
-pub use laws::births_change_no_plan;
+pub use laws::{births_change_no_plan, reports_name_their_own};
 pub use plan::{Differing, InstallPlan, PartitionPlan, TableAfter, Turnover};

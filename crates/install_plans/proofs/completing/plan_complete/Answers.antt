@@ -4,7 +4,7 @@ use Rattle.install_laws.specs.InstallPlans.{SettlePlan, plan_settling}
 use Rattle.lock_table.specs.Tables.{table_of}
 use Rattle.partition_redo.specs.Chains.{AreAll, IsRedone, first_bad}
 use Rattle.install_plans.specs.Plans.{set_one, turnover_of, versions_by}
-use Rattle.install_plans.proofs.Words.{pages_low, table_pages}
+use Rattle.install_plans.proofs.Words.{pages_low, pages_named, redoes_own, table_pages}
 use Rattle.install_plans.proofs.Completed.{completed, not_completed}
 use Rattle.install_plans.proofs.Done.{unplanned, of_config}
 use Rattle.install_plans.proofs.completing.plan_complete.Goals as goal
@@ -45,3 +45,22 @@ returns-clause-planned g c = λ d n t pages logs config number.
     (of_config k me _ _ c.in_ok-redo.redo c.in_ok-redo.ensures.redo)
     (c.in_ok-decisions.ensures.table ∙ ap (λ (x : SettlePlan). x.table) settled)
     (c.in_ok-decisions.ensures.decisions ∙ ap (λ (x : SettlePlan). x.decisions) settled)
+
+pub returns-clause-fits : goal.returns-clause-fits
+returns-clause-fits g c =
+    let k = c.args.by.now.config in
+    let q = c.args.table.partition in
+    let served = c.serve.ensures.place in
+    let settled = c.in_ok-decisions.ensures.place in
+    record {
+      redo = c.in_ok-redo.ensures.redo;
+      own = redoes_own k q c.in_ok-redo.redo c.in_ok-pages.pages.items c.in_ok-redo.ensures.listed
+          (pages_named k q c.in_ok-pages.pages.items c.requires.table.partition (c.in_ok-pages.ensures ∙ ap (pages_of k) c.partition.ensures));
+      table = (
+        record {
+          config = settled.config ∙ (served.config ∙ sym c.requires.table.config);
+          partition = settled.partition ∙ served.partition;
+        },
+        c.in_ok-decisions.ensures.tidy,
+      );
+    }

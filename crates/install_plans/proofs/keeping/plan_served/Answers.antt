@@ -1,15 +1,17 @@
 use Rattle.std.proofs.Common.{◌≡◌, Some, None, fold, ap, sym, ◌∙◌, subst}
 use Rattle.std.specs.List.{filter}
+use Rattle.std.specs.Option.{IfSome}
 use Rattle.run_rules.specs.Redo.{records_in}
 use Rattle.node_rules.specs.LockTable.{pages_of, serve}
 use Rattle.node_rules.specs.InstallRule.{lost_nodes, purge_table}
 use Rattle.install_laws.specs.InstallPlans.{SettlePlan, is_newer, plan_settling}
 use Rattle.lock_table.specs.Tables.{TableView, table_of}
 use Rattle.partition_redo.specs.Chains.{AreAll, IsRedone, first_bad}
-use Rattle.install_plans.specs.Plans.{set_one, versions_by}
+use Rattle.install_plans.specs.Plans.{CanRedo, set_one, versions_by}
 use Rattle.install_plans.proofs.Done.{unplanned, of_config}
 use Rattle.install_plans.proofs.Kept.{kept, not_kept}
 use Rattle.install_plans.proofs.Lost.{untold}
+use Rattle.install_plans.proofs.Words.{redoes_own, table_named}
 use Rattle.install_plans.proofs.keeping.plan_served.Goals as goal
 
 pub returns-in_err-pages-clause-planned : goal.returns-in_err-pages-clause-planned
@@ -53,3 +55,27 @@ returns-clause-planned g c = λ d n b pages logs config number.
     (of_config k me _ _ c.in_ok-redo.redo c.in_ok-redo.ensures.redo)
     (c.in_ok-decisions.ensures.table ∙ ap (λ (x : SettlePlan). x.table) settled)
     (c.in_ok-decisions.ensures.decisions ∙ ap (λ (x : SettlePlan). x.decisions) settled)
+
+pub returns-clause-fits : goal.returns-clause-fits
+returns-clause-fits g c =
+    let k = c.args.by.now.config in
+    let me = c.args.by.now.me in
+    let t = c.args.t.now in
+    let redo = c.in_ok-redo.redo in
+    let read = c.in_ok-pages.ensures in
+    let copied = c.in_ok-table.ensures in
+    let served = c.serve.ensures.place in
+    let settled = c.in_ok-decisions.ensures.place in
+    record {
+      redo = subst (λ ps. IfSome redo (CanRedo k me ps (g.S.Storage.logs c.args.s.now))) read.pages
+          (subst (λ ls. IfSome redo (CanRedo k me (g.S.Storage.pages c.newer_pages.new.s) ls)) read.logs c.in_ok-redo.ensures.redo);
+      own = redoes_own k t.partition redo c.in_ok-pages.pages.items c.in_ok-redo.ensures.listed
+          (table_named k t c.in_ok-pages.pages.items c.requires.table.config read.own);
+      table = (
+        record {
+          config = settled.config ∙ (served.config ∙ (ap (λ (x : TableView). x.config) copied ∙ sym c.requires.table.config));
+          partition = settled.partition ∙ (served.partition ∙ ap (λ (x : TableView). x.partition) copied);
+        },
+        c.in_ok-decisions.ensures.tidy,
+      );
+    }
