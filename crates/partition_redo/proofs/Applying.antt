@@ -85,6 +85,14 @@ pub sizes_torn : (c : Sizes) (pages new : Pages) (logs : Logs) (rooms : Rooms) (
 sizes_torn c pages new logs rooms p raw sizes long (inl e) = subst (λ (x : Pages). HasSizes c x logs rooms) (sym e) sizes
 sizes_torn c pages new logs rooms p raw sizes long (inr e) = subst (λ (x : Pages). HasSizes c x logs rooms) (sym e) (sizes_set c pages logs rooms p raw sizes long)
 
+-- pages that aren't told stay so after a write
+pub page_untold : (old new : Pages) (p : ℕ) (raw : List ℕ) → new ≡ with_page old p raw → old ≡ None → new ≡ None
+page_untold old new p raw same none = same ∙ ap (λ (x : Pages). with_page x p raw) none
+
+pub torn_untold : (old new : Pages) (p : ℕ) (raw : List ℕ) → ((new ≡ old) ⊎ (new ≡ with_page old p raw)) → old ≡ None → new ≡ None
+torn_untold old new p raw (inl same) none = same ∙ none
+torn_untold old new p raw (inr same) none = page_untold old new p raw same none
+
 -- one write that was done, and one that failed
 pub wrote_done : (by p : ℕ) (bytes raw : List ℕ) (l : List (List ℕ)) (old new : Pages) (before stops left : Stops) (r : Result ⊤ Call) → old ≡ Some l → before ≡ stops → raw ≡ bytes → new ≡ with_page old p raw → left ≡ after_change before by
     → ((kept : ℕ) → change_fate before by ≡ Fate.Stopped kept → false ≡ true) → r ≡ Ok tt → Wrote by p bytes l stops new left r

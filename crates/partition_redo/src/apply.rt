@@ -32,6 +32,7 @@ pub(crate) fn apply_chains<S: Storage>(
     requires length { length raw.old ≡ config.now.size + 16 }
     requires stand { (d : Disk) → S.logs s.old ≡ Some d.logs → AllStand config.now d chains.now }
     ensures ran { (d : Disk) → S.pages s.old ≡ Some d.pages → S.logs s.old ≡ Some d.logs → AllByRecursion (IsChain config.now d) chains.now → Ran (all_records config.now d) by (map (λ x. x.page) chains.now) d.pages (S.stops s.old) (S.pages s.new) (S.stops s.new) result }
+    ensures untold { S.pages s.old ≡ None → S.pages s.new ≡ None }
     ensures sizes { HasSizes config.now (S.pages s.new) (S.logs s.new) (S.rooms s.new) }
     ensures logs { S.logs s.new ≡ S.logs s.old }
     ensures rooms { S.rooms s.new ≡ S.rooms s.old }
@@ -62,6 +63,7 @@ fn apply_chain<S: Storage>(
     requires length { length raw.old ≡ config.now.size + 16 }
     requires stand { (d : Disk) → S.logs s.old ≡ Some d.logs → AllByRecursion (IsSite config.now d) chain.now.sites }
     ensures ran { (d : Disk) → S.pages s.old ≡ Some d.pages → S.logs s.old ≡ Some d.logs → IsChain config.now d chain.now → Ran (all_records config.now d) by (chain.now.page ∷ []) d.pages (S.stops s.old) (S.pages s.new) (S.stops s.new) result }
+    ensures untold { S.pages s.old ≡ None → S.pages s.new ≡ None }
     ensures sizes { HasSizes config.now (S.pages s.new) (S.logs s.new) (S.rooms s.new) }
     ensures logs { S.logs s.new ≡ S.logs s.old }
     ensures rooms { S.rooms s.new ≡ S.rooms s.old }
@@ -98,6 +100,7 @@ fn write_chain<S: Storage>(
     requires length { length raw.old ≡ config.now.size + 16 }
     requires stand { (d : Disk) → S.logs s.old ≡ Some d.logs → AllByRecursion (IsSite config.now d) chain.now.sites }
     ensures wrote { (d : Disk) (to : List ℕ) → S.pages s.old ≡ Some d.pages → S.logs s.old ≡ Some d.logs → Leads config.now d chain.now.sites (drop 16 raw.old) to → Wrote by chain.now.page (stored_bytes chain.now.page (record { version = chain.now.version; bytes = to })) d.pages (S.stops s.old) (S.pages s.new) (S.stops s.new) result }
+    ensures untold { S.pages s.old ≡ None → S.pages s.new ≡ None }
     ensures sizes { HasSizes config.now (S.pages s.new) (S.logs s.new) (S.rooms s.new) }
     ensures logs { S.logs s.new ≡ S.logs s.old }
     ensures rooms { S.rooms s.new ≡ S.rooms s.old }

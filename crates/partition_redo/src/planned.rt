@@ -1,4 +1,4 @@
-ghost use Rattle.std.specs.Prelude.{◌≡◌, ◌≢◌, ℕ, ◌<◌, ◌≤◌, ◌+◌, List, Option, Some, map, length, OnOk, IfErr};
+ghost use Rattle.std.specs.Prelude.{◌≡◌, ◌≢◌, ℕ, ◌<◌, ◌≤◌, ◌+◌, List, Option, Some, None, map, length, OnOk, IfErr};
 ghost use Rattle.std.specs.List.{AllByRecursion};
 ghost use Rattle.pcl_base.specs.Faults.{Rose};
 ghost use Rattle.pcl_base.specs.declared.trace.Call.{Call as Kind};
@@ -77,6 +77,7 @@ impl Planned {
         ensures done { OnOk result ((d : Disk) → S.pages s.old ≡ Some d.pages → S.logs s.old ≡ Some d.logs → S.pages s.new ≡ Some (redo_pages (all_records self.old.config d) d.pages (map (λ x. x.page) self.old.chains))) }
         ensures redone { OnOk result ((d : Disk) (l : List (List ℕ)) → S.pages s.old ≡ Some d.pages → S.logs s.old ≡ Some d.logs → S.pages s.new ≡ Some l → AllByRecursion (IsStored self.old.config d l) (map (λ x. x.page) self.old.chains)) }
         ensures told { (d : Disk) → S.pages s.old ≡ Some d.pages → S.logs s.old ≡ Some d.logs → (l : List (List ℕ)) × (S.pages s.new ≡ Some l) }
+        ensures untold { S.pages s.old ≡ None → S.pages s.new ≡ None }
         ensures either { (d : Disk) (l : List (List ℕ)) → S.pages s.old ≡ Some d.pages → S.logs s.old ≡ Some d.logs → S.pages s.new ≡ Some l → AreEither l d.pages (redo_pages (all_records self.old.config d) d.pages (map (λ x. x.page) self.old.chains)) }
         ensures others { (d : Disk) (l : List (List ℕ)) (p : ℕ) → S.pages s.old ≡ Some d.pages → S.logs s.old ≡ Some d.logs → S.pages s.new ≡ Some l → AllByRecursion (λ q. q ≢ p) (map (λ x. x.page) self.old.chains) → raw_page l p ≡ raw_page d.pages p }
         ensures redo { (d : Disk) (l : List (List ℕ)) (p : ℕ) → S.pages s.old ≡ Some d.pages → S.logs s.old ≡ Some d.logs → S.pages s.new ≡ Some l → redo_of self.old.config (with_pages d l) p ≡ redo_of self.old.config d p }

@@ -21,6 +21,7 @@ loop-chain-init g c =
       later = λ k. omega arith;
       below = c.requires.below;
       stand = c.requires.stand;
+      untold = λ none. none;
       run = λ d pages logs chains. has_run_none c.args.config.now d c.args.by c.args.chains.now (g.S.Storage.stops c.args.s.now) (g.S.Storage.pages c.args.s.now) pages chains;
     }
 
@@ -37,6 +38,9 @@ returns-in_err-apply_chain-clause-ran g c = λ d pages logs chains.
     let same : c.from_residual.result ≡ Err c.in_err-apply_chain.field-0.0 = search rules in
     subst (λ (r : Result ⊤ Call). Ran (all_records c.args.config.now d) c.args.by (map (λ x. x.page) c.args.chains.now) d.pages (g.S.Storage.stops c.args.s.now) (g.S.Storage.pages c.apply_chain.new.s) (g.S.Storage.stops c.apply_chain.new.s) r) (sym same)
     (has_run_failed c.args.config.now d c.args.by c.args.chains.now more chain _ _ _ _ _ c.in_err-apply_chain.field-0.0 run ran)
+
+pub returns-in_err-apply_chain-clause-untold : goal.returns-in_err-apply_chain-clause-untold
+returns-in_err-apply_chain-clause-untold g c = λ none. c.in_err-apply_chain.ensures.untold (c.loop-chain.invariant.untold none)
 
 pub returns-clause-ran : goal.returns-clause-ran
 returns-clause-ran g c = λ d pages logs chains.
@@ -64,6 +68,7 @@ loop-chain-preserved g c =
       later = λ k. let first = inv.later k in let later = next.counts k in omega arith;
       below = below.1;
       stand = λ d told. (subst (AllStand c.args.config.now d) split (inv.stand d (sym next.logs ∙ told))).1;
+      untold = λ none. next.untold (inv.untold none);
       run = λ d pages logs chains.
           let run : HasRun c.args.config.now d c.args.by c.args.chains.now (chain ∷ more) (g.S.Storage.stops c.args.s.now) (g.S.Storage.pages c.loop-chain.s) (g.S.Storage.stops c.loop-chain.s) =
           subst (λ (xs : List Chain). HasRun c.args.config.now d c.args.by c.args.chains.now xs (g.S.Storage.stops c.args.s.now) (g.S.Storage.pages c.loop-chain.s) (g.S.Storage.stops c.loop-chain.s)) split (inv.run d pages logs chains) in

@@ -1,4 +1,4 @@
-use Rattle.std.proofs.Common.{◌≡◌, ℕ, ◌+◌, ◌≤◌, ◌<◌, drop, length, List, Option, Some}
+use Rattle.std.proofs.Common.{◌≡◌, ℕ, ◌+◌, ◌≤◌, ◌<◌, drop, length, List, Option, Some, None}
 use Rattle.std.specs.List.{AllByRecursion}
 use Rattle.pcl_base.specs.declared.trace.Call.{Call as Kind}
 use Rattle.disk_model.specs.Disk.{HasSizes}
@@ -17,6 +17,7 @@ invariant-loop-chain g l = record {
   calm : (f : List (Option ℕ)) → NoneFails (g.S.Storage.failing l.fn.s) l.by f → NoneFails (g.S.Storage.failing l.s) l.by f;
   later : (k : Kind) → g.S.Storage.faults l.fn.s k ≤ g.S.Storage.faults l.s k;
   below : AllByRecursion (λ x. x.page < l.config.pages) (drop l.chain-index l.chains);
+  untold : g.S.Storage.pages l.fn.s ≡ None → g.S.Storage.pages l.s ≡ None;
   stand : (d : Disk) → g.S.Storage.logs l.s ≡ Some d.logs → AllStand l.config d (drop l.chain-index l.chains);
   run : (d : Disk) → g.S.Storage.pages l.fn.s ≡ Some d.pages → g.S.Storage.logs l.fn.s ≡ Some d.logs → AllByRecursion (IsChain l.config d) l.chains → HasRun l.config d l.by l.chains (drop l.chain-index l.chains) (g.S.Storage.stops l.fn.s) (g.S.Storage.pages l.s) (g.S.Storage.stops l.s);
 }
