@@ -1,0 +1,5 @@
+use Rattle.page_relation.proofs.Opening.{opening_is_related_law}
+use Rattle.page_relation.proofs.laws.opening_is_related.Goals as goal
+
+pub returns : goal.returns
+returns c = opening_is_related_law
