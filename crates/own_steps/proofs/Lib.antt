@@ -1,7 +1,12 @@
 pub mod Accessing
 pub mod Asked
+pub mod Dues
+pub mod EndRules
+pub mod EndsReady
+pub mod EndsTold
 pub mod Framed
 pub mod Made
+pub mod MadeRooms
 pub mod OwnPages
 pub mod Refusing
 pub mod Worked

@@ -1,10 +1,13 @@
 -- What an event has that the rules don't refuse.
-use Rattle.std.proofs.Common.{◌≡◌, ℕ, ◌<◌, ◌==◌, not, nat_le, Bool, true, false, length, Option, None, is_some, refl, arith}
+use Rattle.std.proofs.Common.{◌≡◌, ℕ, ◌<◌, ◌==◌, not, nat_le, Bool, true, false, length, Option, Some, None, is_some, refl, arith}
 use Rattle.std.proofs.lemmas.Bool.Decides.{nat_tests}
 use Rattle.pcl_base.specs.declared.reply.Reason.{Reason}
 use Rattle.pcl_base.specs.declared.reply.Reason.TheVariants as reason
-use Rattle.node_rules.specs.NodeState.{NodeState, Begin, Evict, Flush, is_serving, table_of}
-use Rattle.node_rules.specs.Refusals.{refuse_if, refusal, refusal_in_view, no_copy}
+use Rattle.pcl_base.specs.declared.tx.TxId.{TxId}
+use Rattle.node_rules.specs.EndRule.{at_version_end}
+use Rattle.node_rules.specs.OpenTxs.{pending_of}
+use Rattle.node_rules.specs.NodeState.{NodeState, Abort, Begin, Commit, Evict, Flush, is_serving, table_of}
+use Rattle.node_rules.specs.Refusals.{refuse_if, refusal, refusal_in_view, no_copy, not_open, waits}
 use Rattle.home.specs.Answers.{evict_refusal, flush_refusal}
 
 pub not_refused : (c : Bool) (r : Reason) (further : Option Reason) → refuse_if c r further ≡ None → (c ≡ false) × (further ≡ None)
@@ -47,3 +50,32 @@ flush_allowed n p none =
     let second = not_refused (nat_le n.home.config.pages p) reason.NoPage (refuse_if (no_copy n p) reason.NoCopy serves) first in
     let third = not_refused (no_copy n p) reason.NoCopy serves second.1 in
     λ i. refuse_if (second.0 i) reason.NoPage (refuse_if (third.0 i) reason.NoCopy None)
+
+-- a transaction can be given up, or committed: the node has a view, and it is open
+pub abort_view : (n : NodeState) (t : TxId) → refusal n (Abort t) ≡ None → is_some n.view ≡ true
+unfolding refusal
+abort_view n t none = is_true (is_some n.view) (not_refused (not (is_some n.view)) reason.NotInView (refusal_in_view n (Abort t)) none).0
+
+pub commit_view : (n : NodeState) (t : TxId) → refusal n (Commit t) ≡ None → is_some n.view ≡ true
+unfolding refusal
+commit_view n t none = is_true (is_some n.view) (not_refused (not (is_some n.view)) reason.NotInView (refusal_in_view n (Commit t)) none).0
+
+none_of : {X : Type 0} (o : Option X) → is_some o ≡ false → o ≡ None
+none_of None e = refl
+none_of (Some x) e = absurd (cc)
+
+commit_rest : (n : NodeState) (t : TxId) → refusal n (Commit t) ≡ None → (waits n t ≡ false) × (at_version_end n.home t ≡ false)
+unfolding refusal
+commit_rest n t none =
+    let last = refuse_if (at_version_end n.home t) reason.VersionEnd None in
+    let first = (not_refused (not (is_some n.view)) reason.NotInView (refusal_in_view n (Commit t)) none).1 in
+    let second = not_refused (not_open n t) reason.NoTx (refuse_if (waits n t) reason.TxWaits last) first in
+    let third = not_refused (waits n t) reason.TxWaits last second.1 in
+    (third.0, (not_refused (at_version_end n.home t) reason.VersionEnd None third.1).0)
+
+-- it doesn't wait, and wrote no page at the last version
+pub commit_idle : (n : NodeState) (t : TxId) → refusal n (Commit t) ≡ None → pending_of n.home.txs t ≡ None
+commit_idle n t none = none_of (pending_of n.home.txs t) (commit_rest n t none).0
+
+pub commit_last : (n : NodeState) (t : TxId) → refusal n (Commit t) ≡ None → at_version_end n.home t ≡ false
+commit_last n t none = (commit_rest n t none).1

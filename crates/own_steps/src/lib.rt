@@ -6,13 +6,20 @@
 mod access_other;
 mod accesses;
 mod copies;
+mod ends;
 mod halt;
 mod held;
 mod looks;
 mod open;
+mod page_end;
 mod planned;
 mod planning;
+mod ready;
+mod rooms;
+mod tell_all;
+mod telling;
 
 pub use accesses::access;
 pub use copies::{evict, flush};
+pub use ends::abort;
 pub use open::begin;

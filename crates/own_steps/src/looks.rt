@@ -2,7 +2,7 @@ ghost use Rattle.std.specs.Prelude.{◌≡◌, ◌<◌, true, is_some};
 ghost use Rattle.home.specs.Asked.{asked};
 ghost use Rattle.node_rules.specs.AccessRule.{is_held};
 ghost use Rattle.node_rules.specs.NodeState.{page_owner, table_of};
-ghost use Rattle.node_parts.specs.State.{AreParts, node_of};
+ghost use Rattle.node_parts.specs.State.{AreParts, IsNode, node_of};
 
 use home::{Access, Home};
 use node_parts::Parts;
@@ -10,7 +10,7 @@ use pcl_base::{Mode, NodeNo, PageNo};
 
 /// The owner of a page in the node's view.
 pub(crate) fn page_owner(parts: &Parts, page: PageNo) -> NodeNo
-    requires parts { AreParts parts.now }
+    requires node { IsNode (node_of parts.now) }
     requires view { is_some parts.now.view ≡ true }
     requires page { page < parts.now.home.config.pages }
     ensures { result ≡ page_owner (node_of parts.now) page }
