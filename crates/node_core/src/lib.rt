@@ -1,0 +1,10 @@
+#![tactic(auto)]
+
+//! A node: the home of its transactions, its view and its lock tables as one value, which contracts see as
+//! the node of the rules.
+
+mod node;
+#[cfg(test)]
+mod tests;
+
+pub use node::Node;
