@@ -1,0 +1,14 @@
+pub mod Landed
+pub mod Kept
+pub mod Nodes
+pub mod Comings
+pub mod Framing
+pub mod Quiet
+pub mod Started
+pub mod Ended
+pub mod Resting
+pub mod Storing
+pub mod Simple
+pub mod Beginning
+pub mod Called
+pub mod Letting

@@ -1,0 +1,9 @@
+pub mod Landing
+pub mod Keeping
+pub mod Unseen
+pub mod Frames
+pub mod Alike
+pub mod StepEnds
+pub mod Rest
+pub mod Events
+pub mod Letting
