@@ -1,12 +1,15 @@
 pub mod Accessing
 pub mod Asked
+pub mod Committed
 pub mod Dues
 pub mod EndRules
 pub mod EndsReady
 pub mod EndsTold
+pub mod Forcing
 pub mod Framed
 pub mod Made
 pub mod MadeRooms
+pub mod Naming
 pub mod OwnPages
 pub mod Refusing
 pub mod Worked

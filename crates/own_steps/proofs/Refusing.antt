@@ -1,13 +1,15 @@
 -- What an event has that the rules don't refuse.
-use Rattle.std.proofs.Common.{◌≡◌, ℕ, ◌<◌, ◌==◌, not, nat_le, Bool, true, false, length, Option, Some, None, is_some, refl, arith}
+use Rattle.std.proofs.Common.{◌≡◌, ℕ, ◌<◌, ◌==◌, not, nat_le, Bool, true, false, List, length, Option, Some, None, is_some, refl, arith}
 use Rattle.std.proofs.lemmas.Bool.Decides.{nat_tests}
 use Rattle.pcl_base.specs.declared.reply.Reason.{Reason}
 use Rattle.pcl_base.specs.declared.reply.Reason.TheVariants as reason
 use Rattle.pcl_base.specs.declared.tx.TxId.{TxId}
 use Rattle.node_rules.specs.EndRule.{at_version_end}
 use Rattle.node_rules.specs.OpenTxs.{pending_of}
-use Rattle.node_rules.specs.NodeState.{NodeState, Abort, Begin, Commit, Evict, Flush, is_serving, table_of}
+use Rattle.node_rules.specs.NodeState.{NodeState, Abort, Begin, Commit, Evict, Flush, Read, Write, is_serving, table_of}
 use Rattle.node_rules.specs.Refusals.{refuse_if, refusal, refusal_in_view, no_copy, not_open, waits}
+use Rattle.home_laws.specs.Refused.{access_refusal}
+use Rattle.home_laws.specs.RefusedEnds.{commit_refusal}
 use Rattle.home.specs.Answers.{evict_refusal, flush_refusal}
 
 pub not_refused : (c : Bool) (r : Reason) (further : Option Reason) → refuse_if c r further ≡ None → (c ≡ false) × (further ≡ None)
@@ -79,3 +81,21 @@ commit_idle n t none = none_of (pending_of n.home.txs t) (commit_rest n t none).
 
 pub commit_last : (n : NodeState) (t : TxId) → refusal n (Commit t) ≡ None → at_version_end n.home t ≡ false
 commit_last n t none = (commit_rest n t none).1
+
+pub commit_allowed : (n : NodeState) (t : TxId) → refusal n (Commit t) ≡ None → commit_refusal t n.home ≡ None
+unfolding refusal commit_refusal
+commit_allowed n t none = (not_refused (not (is_some n.view)) reason.NotInView (refusal_in_view n (Commit t)) none).1
+
+-- a page can be read, or written
+pub read_allowed : (n : NodeState) (t : TxId) (p : ℕ) → refusal n (Read t p) ≡ None → (is_some n.view ≡ true) × (access_refusal (record { tx = t; page = p; write = None }) n.home ≡ None)
+unfolding refusal access_refusal
+read_allowed n t p none =
+    let both = not_refused (not (is_some n.view)) reason.NotInView (refusal_in_view n (Read t p)) none in
+    (is_true (is_some n.view) both.0, both.1)
+
+pub write_allowed : (n : NodeState) (t : TxId) (p place : ℕ) (bytes : List ℕ) → refusal n (Write t p place bytes) ≡ None
+    → (is_some n.view ≡ true) × (access_refusal (record { tx = t; page = p; write = Some (place, bytes) }) n.home ≡ None)
+unfolding refusal access_refusal
+write_allowed n t p place bytes none =
+    let both = not_refused (not (is_some n.view)) reason.NotInView (refusal_in_view n (Write t p place bytes)) none in
+    (is_true (is_some n.view) both.0, both.1)

@@ -5,6 +5,7 @@
 
 mod access_other;
 mod accesses;
+mod commits;
 mod copies;
 mod ends;
 mod halt;
@@ -20,6 +21,7 @@ mod tell_all;
 mod telling;
 
 pub use accesses::access;
+pub use commits::commit;
 pub use copies::{evict, flush};
 pub use ends::abort;
 pub use open::begin;

@@ -1,8 +1,8 @@
-ghost use Rattle.std.specs.Prelude.{◌≡◌, ◌≢◌, ◌<◌, ◌∷◌, ℕ, List, [], true, is_some, length, IsSome, IfSome, OnOk, OnErr};
+ghost use Rattle.std.specs.Prelude.{◌≡◌, ◌<◌, ◌∷◌, ℕ, List, is_some, length, IfSome, OnOk};
 ghost use Rattle.std.specs.List.{AllByRecursion};
 ghost use Rattle.std.specs.Vec.Iter.{into_iter_items, into_iter_len};
 ghost use Rattle.node_parts.specs.State.{AreParts, node_of};
-ghost use Rattle.node_parts.specs.Tables.{made_at, table_for};
+ghost use Rattle.node_parts.specs.Tables.{made_at};
 ghost use Rattle.page_owner.specs.Planned.{ArePartsBut, SameView};
 ghost use Rattle.own_steps.specs.declared.page_end.PageEnd.{PageEnd as PlannedEnd};
 ghost use Rattle.own_steps.specs.Ends.{HasEntry, IsOwned, decisions_in, decisions_of, pages_in};
