@@ -1,0 +1,4 @@
+pub mod Carried
+pub mod Laws
+pub mod Memory
+pub mod Stays
