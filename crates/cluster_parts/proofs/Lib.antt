@@ -1,0 +1,10 @@
+pub mod Heads
+pub mod Sending
+pub mod Named
+pub mod Ready
+pub mod Room
+pub mod Carried
+pub mod Finished
+pub mod Lost
+pub mod Kept
+pub mod Arms

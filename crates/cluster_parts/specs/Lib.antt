@@ -1,0 +1,5 @@
+pub mod State
+pub mod Ends
+pub mod Events
+pub mod Steps
+pub mod Laws
