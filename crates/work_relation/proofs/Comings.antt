@@ -1,5 +1,5 @@
 -- The messages of a page that are on their way as if a step had ended.
-use Rattle.std.proofs.Common.{◌≡◌, refl, ap, sym, ◌∙◌, ℕ, ◌==◌, ◌&&◌, cond, Bool, true, false, List, [], ◌∷◌, ◌++◌, Option, Some, None}
+use Rattle.std.proofs.Common.{◌≡◌, refl, ap, sym, ◌∙◌, ℕ, ◌==◌, ◌&&◌, cond, Bool, true, false, List, [], ◌∷◌, ◌++◌, Some}
 use Rattle.std.specs.List.{filter}
 use Rattle.pcl_base.specs.declared.event.Event.{Event}
 use Rattle.pcl_base.specs.declared.message.Message.{Message}
@@ -9,7 +9,7 @@ use Rattle.node_rules.specs.Words.{pick}
 use Rattle.node_rules.specs.Work.{Work}
 use Rattle.node_laws.proofs.Lists.{all_each}
 use Rattle.cluster_rules.specs.Clusters.{Cluster, node_at, is_up}
-use Rattle.cluster_rules.specs.ClusterStep.{is_taken, links_after}
+use Rattle.cluster_rules.specs.ClusterStep.{is_taken}
 use Rattle.cluster_rules.specs.Links.{link_at, tail_of}
 use Rattle.era_laws.specs.Counts.{counts_in}
 use Rattle.era_laws.proofs.Counted.{counts_stay_law}

@@ -66,7 +66,7 @@ homes_stay_law c e n p w x page a acts standing life uses told is =
     kept t Q change old = kept_node c e n acts w x t.node Q (λ same. change) old
 
 -- a node has reached the same era where its epoch and view are the same
-reached_same : (c : Cluster) (q era r : ℕ) (s x : NodeState) → SameStanding s x → ReachedBy c q era s s.view r → ReachedBy c q era x x.view r
+pub reached_same : (c : Cluster) (q era r : ℕ) (s x : NodeState) → SameStanding s x → ReachedBy c q era s s.view r → ReachedBy c q era x x.view r
 reached_same c q era r s x same old = subst (λ (v : Option View). ReachedBy c q era x v r) (sym same.view) (by s.view old)
   where
     by : (v : Option View) → ReachedBy c q era s v r → ReachedBy c q era x v r

@@ -1,5 +1,5 @@
 -- What is seen of a cluster as if a step had ended.
-use Rattle.std.proofs.Common.{◌≡◌, refl, ap, sym, subst, ◌∙◌, ℕ, zero, suc, ◌<◌, ◌==◌, ◌&&◌, cond, Bool, true, false, List, [], ◌∷◌, ◌++◌, append-nil, length, slice_index_or, slice_set, Option, Some, None, is_some, arith}
+use Rattle.std.proofs.Common.{◌≡◌, refl, ap, sym, subst, ◌∙◌, ℕ, zero, suc, ◌<◌, ◌==◌, ◌&&◌, cond, Bool, true, false, List, [], ◌∷◌, ◌++◌, length, slice_index_or, Option, Some, None, is_some, arith}
 use Rattle.std.specs.List.{AllByRecursion, filter}
 use Rattle.std.proofs.lemmas.Bool.Decides.{nat_tests}
 use Rattle.pcl_base.specs.declared.event.Event.{Event}
@@ -9,13 +9,13 @@ use Rattle.pcl_base.specs.declared.reply.Reply.{Reply}
 use Rattle.node_rules.specs.NodeState.{NodeState, Outgoing}
 use Rattle.node_rules.specs.Words.{pick}
 use Rattle.node_laws.proofs.Lists.{set_same, set_look}
-use Rattle.cluster_rules.specs.Clusters.{Cluster, node_at, is_up, last_view}
+use Rattle.cluster_rules.specs.Clusters.{node_at, is_up, last_view}
 use Rattle.cluster_rules.specs.ClusterStep.{is_taken, links_after}
 use Rattle.cluster_rules.specs.Links.{Links, link_at, put_link, tail_of, take_head, send, send_all}
 use Rattle.link_laws.specs.Coming.{sent_to}
 use Rattle.link_laws.specs.LinkLaws.{IsSquare}
 use Rattle.link_laws.proofs.Linked.{square_put, sent_on_links_law, links_are_square_law}
-use Rattle.work_relation.specs.Landing.{land, Acts, IsLanded, LandingIsSeen}
+use Rattle.work_relation.specs.Landing.{land, LandingIsSeen}
 
 -- the links once the head was taken
 square_after : (n : ℕ) (e : Event) (rs : List Reply) (ls : Links) → IsSquare n ls → IsSquare n (links_after e rs ls)

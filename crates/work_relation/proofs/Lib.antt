@@ -12,3 +12,7 @@ pub mod Simple
 pub mod Beginning
 pub mod Called
 pub mod Letting
+pub mod Sending
+pub mod Taking
+pub mod Spending
+pub mod Revoking

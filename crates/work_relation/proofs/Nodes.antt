@@ -57,7 +57,7 @@ module _ (s x : NodeState) (same : SameStanding s x) where
   unborn_in None t life = ap (λ (k : ℕ). nat_lt k t.born) same.epoch
   unborn_in (Some v) t life = (λ i. nat_lt (life.born i) t.born || (t.born == life.born i && nat_lt (life.last i) t.serial))
 
-  unborn_same : (t : TxId) → SameLife s.home x.home → is_unborn x.view x t ≡ is_unborn s.view s t
+  pub unborn_same : (t : TxId) → SameLife s.home x.home → is_unborn x.view x t ≡ is_unborn s.view s t
   unborn_same t life = ap (λ (v : Option View). is_unborn v x t) same.view ∙ unborn_in s.view t life
 
   pub stands_same : (last p : ℕ) (t : TxId) (h : Home) → SameLife s.home x.home → SameUse p s.home x.home → StandsIn last (Some s) t p h → StandsIn last (Some x) t p h

@@ -1,29 +1,24 @@
 -- Changes of a work that aren't seen at a page.
-use Rattle.std.proofs.Common.{◌≡◌, ◌≢◌, refl, ap, sym, subst, ◌∙◌, ℕ, ◌==◌, ◌&&◌, cond, Bool, true, false, List, [], ◌∷◌, ◌++◌, append-nil, map, Option, Some, None, arith}
+use Rattle.std.proofs.Common.{◌≡◌, refl, ap, sym, subst, ◌∙◌, ℕ, ◌==◌, cond, Bool, true, false, List, [], ◌∷◌, ◌++◌, append-nil, map, Option, Some, None, arith}
 use Rattle.std.specs.List.{AllByRecursion, filter}
 use Rattle.std.proofs.lemmas.Bool.Decides.{nat_tests}
 use Rattle.std.proofs.lemmas.List.Sums.{fold-append}
 use Rattle.pcl_base.specs.declared.event.Event.{Event}
-use Rattle.pcl_base.specs.declared.message.Body.{Body}
 use Rattle.pcl_base.specs.declared.message.Message.{Message}
 use Rattle.pcl_base.specs.declared.reply.Reply.{Reply}
 use Rattle.pcl_base.specs.declared.reply.Reply.TheVariants as reply
-use Rattle.pcl_base.specs.declared.tx.TxId.{TxId}
 use Rattle.run_rules.specs.Disk.{Disk}
 use Rattle.run_rules.specs.Script.{is_refusal, told}
 use Rattle.node_rules.specs.DiskCalls.{DiskCall, WritePage, Force, TrimLog, CutLog, done, all_done}
-use Rattle.node_rules.specs.LockRule.{LockEntry}
 use Rattle.node_rules.specs.LockTable.{LockTable, put_entry, entry_at}
 use Rattle.node_rules.specs.NodeState.{Outgoing, partition, table_at}
-use Rattle.node_rules.specs.OwnerRule.{with_table}
 use Rattle.node_rules.specs.Words.{pick}
-use Rattle.node_rules.specs.Work.{HomeWork, Work, reply, send, with_home_work}
+use Rattle.node_rules.specs.Work.{Work, reply, send}
 use Rattle.node_laws.proofs.Lists.{set_look}
 use Rattle.cluster_rules.specs.Clusters.{Cluster, sent_by}
 use Rattle.cluster_rules.specs.ClusterStep.{is_taken}
-use Rattle.link_laws.specs.Coming.{sent_to, speaks_of}
+use Rattle.link_laws.specs.Coming.{sent_to}
 use Rattle.link_laws.proofs.Ordered.{some_at_the_end_law}
-use Rattle.look_laws.specs.Parts.{SameLife}
 use Rattle.entry_laws.proofs.Tabled.{tables_are_seen_law}
 use Rattle.moment_laws.proofs.Entries.{reply_adds_law, sent_adds_nothing_law}
 use Rattle.moment_laws.proofs.Growing.{nothing_tells_law, read_tells_law, write_tells_law}
@@ -32,7 +27,7 @@ use Rattle.moment_laws.specs.Tells.{TellsSame}
 use Rattle.storage_laws.proofs.Calls.{written_elsewhere_law}
 use Rattle.work_relation.specs.Alike.{QuietReplies, ReadsElsewhere, WritesElsewhere, SendsElsewhere, HomesElsewhere, TablesElsewhere, EntriesElsewhere, IsWriteElsewhere, CallsElsewhere}
 use Rattle.work_relation.specs.Landing.{trace_of}
-use Rattle.work_relation.specs.Unseen.{SameEntry, SameTable, SameStored, SameTold, speaks, SamePage, IsUnseen}
+use Rattle.work_relation.specs.Unseen.{SameEntry, SameTable, SameStored, SameTold, speaks, IsUnseen}
 use Rattle.work_relation.proofs.Framing.{entry_self, standing_self, life_self, page_self}
 
 -- a reply that lets the head be taken is no refusal

@@ -216,7 +216,7 @@ start_is_related_law c e n p s ev a i h is = begun_is_related c e n p s ev i h [
 
 -- ---- the head that was delivered
 
-deliver_is : (c : Cluster) (e : Event) (n : ℕ) (s : NodeState) (from : ℕ) (m : Message) → head_of (named e) ≡ Some n → handed_to c s e ≡ Some (Deliver from m)
+pub deliver_is : (c : Cluster) (e : Event) (n : ℕ) (s : NodeState) (from : ℕ) (m : Message) → head_of (named e) ≡ Some n → handed_to c s e ≡ Some (Deliver from m)
     → (e ≡ event.Deliver from n) × (head_at c.links from n ≡ Some m)
 deliver_is c (event.Deliver x y) n s from m acts h = by (is_some s.view) (head_at c.links x y) refl h
   where
@@ -248,7 +248,7 @@ deliver_is c event.Reopen n s from m acts h = absurd (cc)
 deliver_is c (event.Arm k call kept) n s from m acts h = absurd (cc)
 deliver_is c (event.Cut k) n s from m acts h = absurd (cc)
 
-at_head : (m : Message) (ms : List Message) → head_of ms ≡ Some m → ms ≡ m ∷ tail_of ms
+pub at_head : (m : Message) (ms : List Message) → head_of ms ≡ Some m → ms ≡ m ∷ tail_of ms
 at_head m [] h = absurd (cc)
 at_head m (x ∷ xs) h = let same : x ≡ m = cc in ap (λ (y : Message). y ∷ xs) same
 

@@ -1,5 +1,5 @@
 -- Changes of a work that aren't seen at a page.
-use Rattle.std.specs.Prelude.{◌≡◌, ◌≢◌, ℕ, ◌<◌, true, false, List, [], ◌∷◌, ◌++◌, Option, Some}
+use Rattle.std.specs.Prelude.{◌≡◌, ◌≢◌, ℕ, true, false, List, [], ◌∷◌, ◌++◌, Option, Some}
 use Rattle.std.specs.List.{AllByRecursion}
 use Rattle.pcl_base.specs.declared.event.Event.{Event}
 use Rattle.pcl_base.specs.declared.message.Body.{Body}

@@ -1,7 +1,7 @@
 -- Each part of the relation stays through a step where nothing changes of what it speaks of.
 use Rattle.std.specs.Prelude.{◌≡◌, ℕ, Bool, List, Option}
 use Rattle.pcl_base.specs.declared.event.Event.{Event}
-use Rattle.node_rules.specs.NodeState.{partition, table_at}
+use Rattle.node_rules.specs.NodeState.{table_at}
 use Rattle.node_rules.specs.Work.{Work}
 use Rattle.cluster_rules.specs.Clusters.{Cluster}
 use Rattle.cluster_rules.specs.ClusterStep.{is_taken}

@@ -7,3 +7,7 @@ pub mod StepEnds
 pub mod Rest
 pub mod Events
 pub mod Letting
+pub mod Sends
+pub mod Taken
+pub mod Spending
+pub mod Revoking

@@ -12,6 +12,7 @@ mod alike;
 mod ends;
 mod events;
 mod frames;
+mod sends;
 
 pub use alike::{
     calls_elsewhere, entries_elsewhere, homes_elsewhere, quiet_replies, reads_elsewhere,
@@ -25,4 +26,8 @@ pub use events::{
 pub use frames::{
     copies_stay, history_stays, homes_stay, landing_is_seen, links_stay, nodes_stay, rest_stays,
     stored_stays, tables_stay, unseen_goes_on, unseen_is_kept,
+};
+pub use sends::{
+    back_is_not_earlier, nothing_is_ahead, revoke_is_kept, send_is_kept, send_is_linked,
+    spending_is_step, spends_elsewhere, taken_is_said,
 };
