@@ -1,0 +1,5 @@
+use Rattle.related_runs.proofs.Safe.{related_is_durable_law}
+use Rattle.related_runs.proofs.related.related_is_durable.Goals as goal
+
+pub returns : goal.returns
+returns c = related_is_durable_law

@@ -1,0 +1,5 @@
+use Rattle.related_runs.proofs.GoingOn.{runs_are_safe_law}
+use Rattle.related_runs.proofs.runs.runs_are_safe.Goals as goal
+
+pub returns : goal.returns
+returns c = runs_are_safe_law

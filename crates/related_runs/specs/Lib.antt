@@ -1,0 +1,5 @@
+pub mod Granted
+pub mod Parties
+pub mod Parts
+pub mod RelatedLaws
+pub mod RunLaws

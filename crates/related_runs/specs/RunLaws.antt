@@ -1,0 +1,51 @@
+-- Runs, where each step keeps the pages of its cluster related.
+use Rattle.std.specs.Prelude.{ℕ, List}
+use Rattle.std.specs.List.{AllByRecursion}
+use Rattle.pcl_base.specs.Limits.{Sizes, InLimits}
+use Rattle.pcl_base.specs.declared.event.Event.{Event}
+use Rattle.run_rules.specs.Account.{IsAccounted}
+use Rattle.run_rules.specs.Durable.{IsDurable}
+use Rattle.run_rules.specs.Fresh.{IsFresh}
+use Rattle.run_rules.specs.Serial.{IsSerial}
+use Rattle.cluster_rules.specs.Clusters.{Cluster}
+use Rattle.cluster_rules.specs.ClusterStep.{step}
+use Rattle.cluster_rules.specs.Run.{run}
+use Rattle.cluster_rules.specs.Safe.{Safe}
+use Rattle.page_relation.specs.Laws.{blank}
+use Rattle.page_relation.specs.Together.{HasPages, IsRelated}
+use Rattle.related_runs.specs.Parties.{HaveLiving}
+use Rattle.related_runs.specs.Parts.{HaveSerials}
+
+-- What holds of each cluster of such a run: it is related, and beside its pages nothing is missing.
+pub record IsOfRun (blank : List ℕ) (c : Cluster) : Type 0 where
+  pub related : IsRelated blank c
+  pub serials : HaveSerials c
+  pub living : HaveLiving c
+
+-- The one premise: a step from such a cluster leaves each page related to a state that its machine reaches.
+abbrev pub StepsKeepPages : List ℕ → Type 0
+StepsKeepPages blank = (c : Cluster) (e : Event) → IsOfRun blank c → HasPages blank (step c e)
+
+-- Then all else is kept too.
+abbrev pub StepsGoOn : Type 0
+StepsGoOn = (blank : List ℕ) (c : Cluster) (e : Event) → StepsKeepPages blank → IsOfRun blank c → IsOfRun blank (step c e)
+
+-- So it holds of every cluster of a run.
+abbrev pub RunsAreRelated : Type 0
+RunsAreRelated = (c : Sizes) (es : List Event) → InLimits c → StepsKeepPages (blank c) → AllByRecursion (IsOfRun (blank c)) (run c es)
+
+-- what is promised of a cluster, but for the account of its messages
+pub record IsTrue (c : Cluster) : Type 0 where
+  pub fresh : IsFresh c.config c.trace
+  pub serial : IsSerial c.config c.trace
+  pub durable : IsDurable c.config c.trace c.disk
+
+-- every cluster of a run keeps it
+abbrev pub RunsAreTrue : Type 0
+RunsAreTrue = (c : Sizes) (es : List Event) → InLimits c → StepsKeepPages (blank c) → AllByRecursion IsTrue (run c es)
+
+-- and where each message has its cause, it is safe
+abbrev pub RunsAreSafe : Type 0
+RunsAreSafe =
+    (c : Sizes) (es : List Event) → InLimits c → StepsKeepPages (blank c) → AllByRecursion (λ k. IsAccounted k.config k.trace) (run c es)
+    → AllByRecursion Safe (run c es)
