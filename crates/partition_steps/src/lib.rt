@@ -10,6 +10,8 @@ mod laws;
 mod memory;
 mod needs;
 mod redo;
+#[cfg(test)]
+mod tests;
 mod turn;
 
 pub use carrying::carry;
