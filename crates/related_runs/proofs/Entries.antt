@@ -22,7 +22,7 @@ use Rattle.related_runs.specs.Granted.{Given, given_by, is_commit}
 use Rattle.related_runs.proofs.Traces.{IsQuiet, IsRightAt, IsRightIn, fresh_then}
 
 -- what is asked for, and a commit point of a halt, are no granted accesses
-quiet_asked : (e : Event) (b : Bool) → AllByRecursion IsQuiet (pick b [] (asked e))
+pub quiet_asked : (e : Event) (b : Bool) → AllByRecursion IsQuiet (pick b [] (asked e))
 quiet_asked e true = tt
 quiet_asked (event.Begin n) false = tt
 quiet_asked (event.Read t p) false = (tt, tt)
@@ -39,7 +39,7 @@ quiet_asked event.Reopen false = tt
 quiet_asked (event.Arm n call stops) false = tt
 quiet_asked (event.Cut n) false = tt
 
-quiet_halt : (o : Option Halt) → AllByRecursion IsQuiet (kept o)
+pub quiet_halt : (o : Option Halt) → AllByRecursion IsQuiet (kept o)
 quiet_halt None = tt
 quiet_halt (Some h) = by h.kept
   where

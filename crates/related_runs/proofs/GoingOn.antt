@@ -1,7 +1,8 @@
 -- From the one premise to what is promised of every run.
-use Rattle.std.proofs.Common.{ℕ, List, [], ◌∷◌}
+use Rattle.std.proofs.Common.{◌≡◌, ℕ, Bool, true, false, List, [], ◌∷◌}
 use Rattle.std.specs.List.{AllByRecursion}
 use Rattle.pcl_base.specs.Limits.{Sizes, InLimits}
+use Rattle.pcl_base.specs.declared.tx.Mode.TheVariants.{Exclusive}
 use Rattle.pcl_base.specs.declared.event.Event.{Event}
 use Rattle.run_rules.specs.Account.{IsAccounted}
 use Rattle.run_rules.specs.Fresh.{IsFresh}
@@ -12,11 +13,15 @@ use Rattle.cluster_rules.specs.Safe.{Safe}
 use Rattle.cluster_laws.proofs.Steps.{step_keeps_clusters_law}
 use Rattle.link_laws.proofs.Rising.{steps_keep_order_law}
 use Rattle.moment_laws.proofs.Growing.{empty_tells_law}
-use Rattle.page_relation.specs.Laws.{blank}
-use Rattle.page_relation.proofs.Opening.{opening_is_whole_law}
+use Rattle.node_rules.specs.NodeState.{partition}
+use Rattle.page_protocol.specs.State.{Home, Fresh, Holding}
+use Rattle.page_protocol.specs.Steps.{here as no_step}
+use Rattle.page_relation.specs.Laws.{blank, opening_page}
+use Rattle.page_relation.proofs.Opening.{opening_is_related_law, opening_is_whole_law}
 use Rattle.related_runs.specs.RunLaws.{IsOfRun, StepsKeepPages, StepsGoOn, RunsAreRelated, IsTrue, RunsAreTrue, RunsAreSafe}
 use Rattle.related_runs.proofs.Asked.{steps_have_asked_law, opening_has_serials_law, steps_have_serials_law}
 use Rattle.related_runs.proofs.FreshSteps.{related_stays_fresh_law}
+use Rattle.related_runs.proofs.Within.{opening_has_within_law, steps_have_within_law}
 use Rattle.related_runs.proofs.KeptLogs.{related_keeps_logs_law}
 use Rattle.related_runs.proofs.Spoken.{opening_has_living_law, steps_keep_parties_law}
 use Rattle.related_runs.proofs.Safe.{related_is_serial_law, related_is_durable_law}
@@ -25,6 +30,7 @@ pub steps_go_on_law : StepsGoOn
 steps_go_on_law blank c e keeps is =
     let r = is.related in
     let talks = steps_keep_parties_law c e r.cluster is.living r.parties in
+    let left = keeps c e is in
     record {
       related =
           record {
@@ -33,14 +39,44 @@ steps_go_on_law blank c e keeps is =
             logs = related_keeps_logs_law blank c e r is.serials;
             order = steps_keep_order_law c e r.cluster r.order;
             parties = talks.1;
-            pages = keeps c e is;
+            pages = left.pages;
           };
+      between = left.between;
       serials = steps_have_serials_law c e r.cluster is.serials;
       living = talks.0;
+      within = steps_have_within_law c e r.cluster is.within;
     }
 
 opening_is_of_run : (c : Sizes) → InLimits c → IsOfRun (blank c) (opening c)
-opening_is_of_run c limits = record { related = opening_is_whole_law c limits; serials = opening_has_serials_law c; living = opening_has_living_law c }
+unfolding opening
+opening_is_of_run c limits =
+    let whole = opening_is_whole_law c limits in
+    record {
+      related =
+          record {
+            cluster = whole.cluster;
+            asked = whole.asked;
+            logs = whole.logs;
+            order = whole.order;
+            parties = whole.parties;
+            pages =
+                record {
+                  page = opening_page c;
+                  reached = λ p below. (1, partition c p, no_step);
+                  related = λ p below. opening_is_related_law c p limits below;
+                };
+          };
+      between = record { entered = λ p below x dirty. absurd (clean dirty); wrote = λ p below t held. absurd (idle held) };
+      serials = opening_has_serials_law c;
+      living = opening_has_living_law c;
+      within = opening_has_within_law c;
+    }
+  where
+    clean : (let b : Bool = false in b) ≡ true → ⊥
+    clean e = cc
+
+    idle : (let h : Home = Fresh in h) ≡ Holding Exclusive → ⊥
+    idle e = cc
 
 related_from : (b : List ℕ) → StepsKeepPages b → (es : List Event) (c : Cluster) → IsOfRun b c → AllByRecursion (IsOfRun b) (run_from c es)
 unfolding run_from

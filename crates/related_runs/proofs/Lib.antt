@@ -21,4 +21,5 @@ pub mod TalkRedo
 pub mod TalkEnds
 pub mod TalkSteps
 pub mod Spoken
+pub mod Within
 pub mod GoingOn

@@ -22,14 +22,14 @@ use Rattle.moment_laws.proofs.ByPage.{writes_are_left_law}
 use Rattle.moment_laws.proofs.Growing.{story_seen}
 
 -- a script of some moments and of those behind them
-script_joined : (t : TxId) (w : Option (ℕ × List ℕ)) (xs ys : List Moment) → script_from t w (xs ++ ys) ≡ script_from t w xs ++ script_from t (fold (last_write t) w xs) ys
+pub script_joined : (t : TxId) (w : Option (ℕ × List ℕ)) (xs ys : List Moment) → script_from t w (xs ++ ys) ≡ script_from t w xs ++ script_from t (fold (last_write t) w xs) ys
 unfolding script_from
 script_joined t w [] ys = refl
 script_joined t w (m ∷ xs) ys =
     ap (λ s. steps_at t w m ++ s) (script_joined t (last_write t w m) xs ys)
     ∙ sym (append_assoc (steps_at t w m) (script_from t (last_write t w m) xs) (script_from t (fold (last_write t) (last_write t w m) xs) ys))
 
-accesses_joined : (p : ℕ) (xs ys : List Step) → accesses_of p (xs ++ ys) ≡ accesses_of p xs ++ accesses_of p ys
+pub accesses_joined : (p : ℕ) (xs ys : List Step) → accesses_of p (xs ++ ys) ≡ accesses_of p xs ++ accesses_of p ys
 unfolding accesses_of
 accesses_joined p [] ys = refl
 accesses_joined p (step.Read q bytes ∷ xs) ys = by (q == p) (accesses_joined p xs ys)
@@ -197,7 +197,7 @@ moments_step : (e : Entry) (es : List Entry) → moments (e ∷ es) ≡ moments_
 unfolding moments
 moments_step e es = refl
 
-no_moments : moments [] ≡ []
+pub no_moments : moments [] ≡ []
 unfolding moments
 no_moments = refl
 

@@ -1,8 +1,9 @@
 -- Runs, where each step keeps the pages of its cluster related.
-use Rattle.std.specs.Prelude.{ℕ, List}
+use Rattle.std.specs.Prelude.{◌≡◌, ℕ, ◌<◌, ◌≤◌, true, List, Some}
 use Rattle.std.specs.List.{AllByRecursion}
 use Rattle.pcl_base.specs.Limits.{Sizes, InLimits}
 use Rattle.pcl_base.specs.declared.event.Event.{Event}
+use Rattle.pcl_base.specs.declared.tx.TxId.{TxId}
 use Rattle.run_rules.specs.Account.{IsAccounted}
 use Rattle.run_rules.specs.Durable.{IsDurable}
 use Rattle.run_rules.specs.Fresh.{IsFresh}
@@ -11,20 +12,43 @@ use Rattle.cluster_rules.specs.Clusters.{Cluster}
 use Rattle.cluster_rules.specs.ClusterStep.{step}
 use Rattle.cluster_rules.specs.Run.{run}
 use Rattle.cluster_rules.specs.Safe.{Safe}
+use Rattle.pcl_base.specs.declared.tx.Mode.TheVariants.{Exclusive}
+use Rattle.page_protocol.specs.Bytes.{Copy, writes}
+use Rattle.page_protocol.specs.State.{Page, Holding}
 use Rattle.page_relation.specs.Laws.{blank}
 use Rattle.page_relation.specs.Together.{HasPages, IsRelated}
 use Rattle.related_runs.specs.Parties.{HaveLiving}
-use Rattle.related_runs.specs.Parts.{HaveSerials}
+use Rattle.related_runs.specs.Parts.{HaveSerials, HaveWithin}
+
+-- The owner's dirty copy isn't newer than the entry.
+abbrev pub IsEntered : Page → Type 0
+IsEntered a = (x : Copy) → a.dirty ≡ true → a.slot a.owner ≡ Some x → x.version ≤ a.entry
+
+-- Who holds the page exclusively has written it.
+abbrev pub HaveWritten : Page → Type 0
+HaveWritten a = (t : TxId) → a.home t ≡ Holding Exclusive → writes (a.script t) ≡ true
+
+-- What holds of the states of pages between two events, while the machine of one page comes through others.
+pub record AreBetween (c : Cluster) (page : ℕ → Page) : Type 0 where
+  pub entered : (p : ℕ) → p < c.config.pages → IsEntered (page p)
+  pub wrote : (p : ℕ) → p < c.config.pages → HaveWritten (page p)
 
 -- What holds of each cluster of such a run: it is related, and beside its pages nothing is missing.
 pub record IsOfRun (blank : List ℕ) (c : Cluster) : Type 0 where
   pub related : IsRelated blank c
+  pub between : AreBetween c related.pages.page
   pub serials : HaveSerials c
   pub living : HaveLiving c
+  pub within : HaveWithin c
 
--- The one premise: a step from such a cluster leaves each page related to a state that its machine reaches.
+-- each page is related to a state that its machine reaches, and that may stand between two events
+pub record LeavesPages (blank : List ℕ) (c : Cluster) : Type 0 where
+  pub pages : HasPages blank c
+  pub between : AreBetween c pages.page
+
+-- The one premise: a step from such a cluster leaves its pages so.
 abbrev pub StepsKeepPages : List ℕ → Type 0
-StepsKeepPages blank = (c : Cluster) (e : Event) → IsOfRun blank c → HasPages blank (step c e)
+StepsKeepPages blank = (c : Cluster) (e : Event) → IsOfRun blank c → LeavesPages blank (step c e)
 
 -- Then all else is kept too.
 abbrev pub StepsGoOn : Type 0

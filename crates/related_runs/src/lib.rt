@@ -14,6 +14,9 @@ mod runs;
 
 pub use granted::{grants_stand, steps_keep_serials};
 pub use parties::{opening_has_living, steps_keep_parties};
-pub use parts::{opening_has_serials, related_keeps_logs, steps_have_asked, steps_have_serials};
+pub use parts::{
+    opening_has_serials, opening_has_within, related_keeps_logs, steps_have_asked,
+    steps_have_serials, steps_have_within,
+};
 pub use related::{related_is_durable, related_is_serial, related_stays_fresh};
 pub use runs::{runs_are_related, runs_are_safe, runs_are_true, steps_go_on};

@@ -1,6 +1,6 @@
 //! Laws of what steps keep beside the pages.
 
-ghost use Rattle.related_runs.specs.Parts.{OpeningHasSerials, StepsHaveSerials, StepsHaveAsked, RelatedKeepsLogs};
+ghost use Rattle.related_runs.specs.Parts.{OpeningHasSerials, StepsHaveSerials, StepsHaveAsked, RelatedKeepsLogs, OpeningHasWithin, StepsHaveWithin};
 
 /// In the opening cluster no home has given a serial.
 pub fn opening_has_serials()
@@ -20,4 +20,14 @@ pub fn steps_have_asked()
 /// Through a step from a related cluster the logs of all nodes in a view stay whole.
 pub fn related_keeps_logs()
     ensures { RelatedKeepsLogs }
+{}
+
+/// In the opening cluster no transaction has accessed a page.
+pub fn opening_has_within()
+    ensures { OpeningHasWithin }
+{}
+
+/// Through a step no transaction has accessed a page past the last.
+pub fn steps_have_within()
+    ensures { StepsHaveWithin }
 {}
