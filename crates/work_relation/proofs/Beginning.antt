@@ -19,8 +19,7 @@ use Rattle.home_laws.specs.Homes.{AreSerials}
 use Rattle.home_laws.proofs.Serials.{serials_below, serial_pushed}
 use Rattle.cluster_rules.specs.Clusters.{Cluster, last_view, stop_at}
 use Rattle.cluster_rules.specs.ClusterStep.{step}
-use Rattle.cluster_laws.specs.Handed.{IsHanded}
-use Rattle.cluster_laws.specs.Sound.{IsMember, IsCluster}
+use Rattle.cluster_laws.specs.Sound.{IsMember}
 use Rattle.cluster_laws.proofs.Steps.{up_is_member_law}
 use Rattle.page_protocol.specs.State.{Home, Fresh, Page, current, IsFresh}
 use Rattle.page_protocol.specs.State as machine

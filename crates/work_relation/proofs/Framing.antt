@@ -213,11 +213,11 @@ unseen_self c e n p w =
     }
 
 -- one after the other
-life_then : (g h k : HomeState) → SameLife g h → SameLife h k → SameLife g k
+pub life_then : (g h k : HomeState) → SameLife g h → SameLife h k → SameLife g k
 life_then g h k a b =
     record { config = b.config ∙ a.config; node = b.node ∙ a.node; born = b.born ∙ a.born; last = b.last ∙ a.last; alive = λ t. b.alive t ∙ a.alive t }
 
-page_then : (p : ℕ) (g h k : HomeState) → SamePage p g h → SamePage p h k → SamePage p g k
+pub page_then : (p : ℕ) (g h k : HomeState) → SamePage p g h → SamePage p h k → SamePage p g k
 page_then p g h k a b =
     record {
       uses =

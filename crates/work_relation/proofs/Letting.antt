@@ -6,13 +6,13 @@ use Rattle.pcl_base.specs.declared.event.Event.{Event}
 use Rattle.pcl_base.specs.declared.tx.TxId.{TxId}
 use Rattle.text_rules.specs.StoredPage.{stored_bytes}
 use Rattle.run_rules.specs.Disk.{Disk}
-use Rattle.node_rules.specs.AccessRule.{Access, take_frames}
+use Rattle.node_rules.specs.AccessRule.{take_frames}
 use Rattle.node_rules.specs.BufferRule as buffer
 use Rattle.node_rules.specs.BufferRule.{copy_at, dirty, is_dirty_copy}
 use Rattle.node_rules.specs.DiskCalls.{DiskCall, WritePage, done, all_done}
 use Rattle.node_rules.specs.NodeState.{HomeState}
 use Rattle.node_rules.specs.Words.{pick}
-use Rattle.node_rules.specs.Work.{HomeWork, Work, Goes, work_of_home, with_home_work}
+use Rattle.node_rules.specs.Work.{HomeWork, Work, work_of_home, with_home_work}
 use Rattle.node_laws.proofs.Lists.{all_append}
 use Rattle.cluster_rules.specs.Clusters.{Cluster}
 use Rattle.call_laws.specs.Calls.{IsWrite, BeginsWith}
@@ -29,7 +29,7 @@ use Rattle.page_protocol.specs.Storage.{flushing, evicting}
 use Rattle.page_protocol.proofs.Keeps.{reached_holds}
 use Rattle.page_relation.specs.Looks.{copy_in}
 use Rattle.page_relation.specs.Relation.{CopiesAre}
-use Rattle.storage_laws.specs.Looks.{IsStored, page_of}
+use Rattle.storage_laws.specs.Looks.{IsStored}
 use Rattle.work_relation.specs.Events.{IsEntered, IsUnused}
 use Rattle.work_relation.specs.Keeping.{Leads}
 use Rattle.work_relation.specs.Landing.{land, disk_of}
@@ -52,14 +52,14 @@ begins_then front middle calls a b =
     }
 
 -- they leave the logs
-logs_after : (n : ℕ) (d : Disk) (front calls : List DiskCall) → BeginsWith front calls → (all_done n d calls).logs ≡ (all_done n d front).logs
+pub logs_after : (n : ℕ) (d : Disk) (front calls : List DiskCall) → BeginsWith front calls → (all_done n d calls).logs ≡ (all_done n d front).logs
 logs_after n d front calls b =
     ap (λ (xs : List DiskCall). (all_done n d xs).logs) b.joined
     ∙ ap (λ (x : Disk). x.logs) (fold-append (done n) d front b.writes)
     ∙ writes_keep_logs_law n (all_done n d front) b.writes b.all
 
 -- the same pages and logs are the same disk
-disk_same : (d f : Disk) → d.pages ≡ f.pages → d.logs ≡ f.logs → d ≡ f
+pub disk_same : (d f : Disk) → d.pages ≡ f.pages → d.logs ≡ f.logs → d ≡ f
 disk_same d f pages logs = (λ i. record { pages = pages i; logs = logs i })
 
 -- a home's work with other calls

@@ -16,3 +16,4 @@ pub mod Sending
 pub mod Taking
 pub mod Spending
 pub mod Revoking
+pub mod Granting

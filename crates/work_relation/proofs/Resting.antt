@@ -1,6 +1,5 @@
 -- What stays of the relation where the machine changes what is stored alone.
-use Rattle.std.proofs.Common.{◌≡◌, refl, ap, sym, subst, ◌∙◌, ℕ, Bool, true, false, List, Option, Some, None}
-use Rattle.std.specs.List.{AllByRecursion}
+use Rattle.std.proofs.Common.{◌≡◌, ap, sym, subst, ◌∙◌, ℕ, Bool, true, false, List, Option, Some, None}
 use Rattle.pcl_base.specs.declared.message.Message.{Message}
 use Rattle.pcl_base.specs.declared.tx.TxId.{TxId}
 use Rattle.node_rules.specs.LockTable.{LockTable, entry_at}
@@ -16,7 +15,7 @@ use Rattle.page_relation.specs.Homes.{StandsIn, ImageIn, runs_in}
 use Rattle.page_relation.specs.Messages.{SaysSo}
 use Rattle.page_relation.specs.Relation.{HistoryIs, HomesAre, NodesAre, TablesAre, LinksAre, MessageIs}
 use Rattle.page_relation.specs.Tables.{IsServed, IsRebuilt, TableIs, TableIn, TableOf, EraIs, serves_in}
-use Rattle.work_relation.specs.Rest.{SameRest, RestIs, RestStays}
+use Rattle.work_relation.specs.Rest.{SameRest, RestStays}
 
 -- a thing of a type that is the same
 along : {S T : Type 0} → S ≡ T → S → T

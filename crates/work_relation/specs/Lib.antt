@@ -11,3 +11,4 @@ pub mod Sends
 pub mod Taken
 pub mod Spending
 pub mod Revoking
+pub mod Granting

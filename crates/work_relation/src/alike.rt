@@ -1,6 +1,7 @@
 //! Changes of a work that aren't seen at a page, each law as the clause of an empty function.
 
 ghost use Rattle.work_relation.specs.Alike.{QuietReplies, ReadsElsewhere, WritesElsewhere, SendsElsewhere, HomesElsewhere, TablesElsewhere, EntriesElsewhere, CallsElsewhere};
+ghost use Rattle.work_relation.specs.Granting.{GrantsElsewhere};
 
 /// A reply that tells no access and no commit isn't seen at any page.
 pub fn quiet_replies()
@@ -40,4 +41,9 @@ pub fn entries_elsewhere()
 /// Page writes of other pages leave what is stored of the page.
 pub fn calls_elsewhere()
     ensures { CallsElsewhere }
+{}
+
+/// A grant of another page that is carried out isn't seen: the page is brought, the lock is there, the access is done.
+pub fn grants_elsewhere()
+    ensures { GrantsElsewhere }
 {}

@@ -15,8 +15,8 @@ mod frames;
 mod sends;
 
 pub use alike::{
-    calls_elsewhere, entries_elsewhere, homes_elsewhere, quiet_replies, reads_elsewhere,
-    sends_elsewhere, tables_elsewhere, writes_elsewhere,
+    calls_elsewhere, entries_elsewhere, grants_elsewhere, homes_elsewhere, quiet_replies,
+    reads_elsewhere, sends_elsewhere, tables_elsewhere, writes_elsewhere,
 };
 pub use ends::{end_is_landed, head_is_said, refused_is_kept, start_is_related};
 pub use events::{
