@@ -22,4 +22,5 @@ pub mod TalkEnds
 pub mod TalkSteps
 pub mod Spoken
 pub mod Within
+pub mod AllKinds
 pub mod GoingOn

@@ -1,4 +1,5 @@
 pub mod Granted
+pub mod Kinds
 pub mod Parties
 pub mod Parts
 pub mod RelatedLaws

@@ -19,4 +19,4 @@ pub use parts::{
     steps_have_serials, steps_have_within,
 };
 pub use related::{related_is_durable, related_is_serial, related_stays_fresh};
-pub use runs::{runs_are_related, runs_are_safe, runs_are_true, steps_go_on};
+pub use runs::{kinds_are_all, runs_are_related, runs_are_safe, runs_are_true, steps_go_on};

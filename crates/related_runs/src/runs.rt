@@ -1,6 +1,12 @@
 //! Laws of runs whose steps keep the pages related.
 
+ghost use Rattle.related_runs.specs.Kinds.{KindsAreAll};
 ghost use Rattle.related_runs.specs.RunLaws.{StepsGoOn, RunsAreRelated, RunsAreTrue, RunsAreSafe};
+
+/// Each step keeps the pages related, where the steps of each kind do.
+pub fn kinds_are_all()
+    ensures { KindsAreAll }
+{}
 
 /// Where each step keeps the pages related, it keeps all else that holds of a related cluster.
 pub fn steps_go_on()
