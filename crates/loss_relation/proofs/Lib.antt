@@ -19,3 +19,7 @@ pub mod Past
 pub mod Committing
 pub mod Kept
 pub mod Halted
+pub mod Same
+pub mod Dirty
+pub mod Releases
+pub mod Ordinary

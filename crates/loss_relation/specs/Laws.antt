@@ -19,7 +19,7 @@ use Rattle.page_protocol.specs.Steps.{Reached}
 use Rattle.page_relation.specs.Relation.{IsPageOf}
 use Rattle.page_relation.specs.Together.{IsRelated}
 use Rattle.loss_relation.specs.Leads.{LeadsTo}
-use Rattle.loss_relation.specs.Writes.{WriteVersions, ScriptsFit}
+use Rattle.loss_relation.specs.Writes.{WriteVersions, ScriptsFit, RedoesNothing}
 
 -- A refused event leaves a page's state.
 abbrev pub RefusedIsRelated : Type 0
@@ -70,3 +70,16 @@ HaltedIsRelated =
 abbrev pub DifferingIsRelated : Type 0
 DifferingIsRelated =
     (blank : List ℕ) (c : Cluster) (e : Event) (n : ℕ) (s : NodeState) (ev : NodeEvent) → IsRelated blank c → IsHanded c e n s ev → IsRelated blank (note_entry e [] [] None (lose n c))
+
+-- A step on an event that redoes no page writes only versions of pages: dirty copies that it makes room of or that it
+-- is told to write, and a change that finds no room.
+abbrev pub StepsWriteVersions : Type 0
+StepsWriteVersions =
+    (blank : List ℕ) (c : Cluster) (e : Event) (n : ℕ) (s : NodeState) (ev : NodeEvent) (plan : Plan) (r : IsRelated blank c) → IsPlanned c e n s ev plan → RedoesNothing ev
+    → WriteVersions r.pages.page c.config.pages n plan.calls
+
+-- So a stop in such a step keeps a cluster related.
+abbrev pub OrdinaryHaltsAreRelated : Type 0
+OrdinaryHaltsAreRelated =
+    (blank : List ℕ) (c : Cluster) (e : Event) (n : ℕ) (s : NodeState) (ev : NodeEvent) (plan : Plan) (l : Left) (r : IsRelated blank c) → IsPlanned c e n s ev plan
+    → left_of n c.disk plan.calls (stop_at c n) ≡ Some l → RedoesNothing ev → ScriptsFit c r.pages.page → IsRelated blank (halted e n l c)

@@ -1,10 +1,12 @@
 -- Page writes of a step that a stop ended, as the machine of one page takes them.
 use Rattle.std.specs.Prelude.{◌≡◌, ◌≢◌, ◌⊎◌, ℕ, ◌<◌, ◌≤◌, ◌^◌, true, List, [], ◌∷◌, ◌++◌, ⊤, Some, None, Option}
+use Rattle.pcl_base.specs.declared.message.Body.{Body}
+use Rattle.pcl_base.specs.declared.message.Body.TheVariants as body
 use Rattle.pcl_base.specs.declared.tx.Mode.TheVariants.{Exclusive}
 use Rattle.pcl_base.specs.declared.tx.TxId.{TxId}
 use Rattle.text_rules.specs.StoredPage.{stored_bytes}
 use Rattle.node_rules.specs.DiskCalls.{DiskCall, WritePage, Force, TrimLog, CutLog}
-use Rattle.node_rules.specs.NodeState.{NodeState}
+use Rattle.node_rules.specs.NodeState.{NodeState, NodeEvent, Install, Deliver}
 use Rattle.cluster_rules.specs.Clusters.{Cluster, node_at}
 use Rattle.page_protocol.specs.Bytes.{writes}
 use Rattle.page_protocol.specs.State.{Holding, Page}
@@ -57,3 +59,14 @@ pub record ScriptsFit (c : Cluster) (page : ℕ → Page) : Type 0 where
   pub within : (t : TxId) (p : ℕ) → c.config.pages ≤ p → accesses_in t p c.trace ≡ []
   pub wrote : (t : TxId) (p : ℕ) → p < c.config.pages → (page p).home t ≡ Holding Exclusive → writes ((page p).script t) ≡ true
   pub serials : (n : ℕ) (s : NodeState) → node_at c n ≡ Some s → s.home.txs.last < 2 ^ 32
+
+-- a message that is no report
+abbrev pub IsNoReport : Body → Type 0
+IsNoReport (body.Report r) = ⊥
+IsNoReport _ = ⊤
+
+-- An event that redoes no page: any but an install and a report that arrives.
+abbrev pub RedoesNothing : NodeEvent → Type 0
+RedoesNothing (Install v) = ⊥
+RedoesNothing (Deliver from m) = IsNoReport m.body
+RedoesNothing _ = ⊤

@@ -5,9 +5,11 @@ ghost use Rattle.loss_relation.specs.Laws.{
   CrashedIsRelated,
   DifferingIsRelated,
   HaltedIsRelated,
+  OrdinaryHaltsAreRelated,
   QuietEventsKeepRelated,
   RefusedIsRelated,
   ReopenedIsRelated,
+  StepsWriteVersions,
   ViewedIsRelated,
 };
 
@@ -54,4 +56,15 @@ pub fn halted_is_related()
 /// And after a step that met a page with another number on disk, which loses the node.
 pub fn differing_is_related()
     ensures { DifferingIsRelated }
+{}
+
+/// What that asks of its calls a step gives that redoes no page, on any event but an install and a report: it writes
+/// its dirty copies, and a change that it takes, which are versions of their pages.
+pub fn steps_write_versions()
+    ensures { StepsWriteVersions }
+{}
+
+/// So a stop in such a step keeps a cluster related.
+pub fn ordinary_halts_are_related()
+    ensures { OrdinaryHaltsAreRelated }
 {}

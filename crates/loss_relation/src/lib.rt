@@ -11,5 +11,6 @@ mod laws;
 
 pub use laws::{
     armed_is_related, crashed_is_related, differing_is_related, halted_is_related,
-    quiet_events_keep_related, refused_is_related, reopened_is_related, viewed_is_related,
+    ordinary_halts_are_related, quiet_events_keep_related, refused_is_related, reopened_is_related,
+    steps_write_versions, viewed_is_related,
 };
