@@ -9,9 +9,9 @@ use std::test::Fail;
 fn a_first_node_takes_events(rt: HostRuntime) -> Result<(), Fail> {
     let config = Config::new(2, 9, 8, 2)?;
     assert_eq!(rt; config.nodes(), 2);
-    let node = Node::first(rt.alloc(), &config, 1)?;
+    let node = Node::first(rt.alloc(), &config, 0)?;
     let seen = (node.epoch(), node.in_view());
-    let tables = (node.table(0).is_some(), node.table(1).is_some());
+    let table = node.table(0).is_some();
     let begin = node.refusal(&NodeEvent::Begin);
     let evict = node.refusal(&NodeEvent::Evict { page: 9 });
     let bound = node.most(&NodeEvent::Cut);
@@ -20,7 +20,7 @@ fn a_first_node_takes_events(rt: HostRuntime) -> Result<(), Fail> {
     let held = node.holding();
     node.lose();
     assert_eq!(rt; seen, (1, true));
-    assert_eq!(rt; tables, (false, true));
+    assert_eq!(rt; table, true);
     assert_eq!(rt; begin, None);
     assert_eq!(rt; evict, Some(Reason::NoPage));
     assert_eq!(rt; bound, 6);
