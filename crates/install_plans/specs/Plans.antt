@@ -15,7 +15,7 @@ use Rattle.node_rules.specs.Work.{Outcome, Goes, Differs as differs}
 use Rattle.disk_model.specs.Disk.{Pages, Logs}
 use Rattle.install_laws.specs.InstallPlans.{Turnover as Turned, Stays as stays, IsTaken as is_taken, IsLeft as is_left, PageWrite, PartitionPlan as Planned}
 use Rattle.lock_table.specs.Tables.{table_of}
-use Rattle.partition_redo.specs.Chains.{PlannedView, AreAll, AllStand, IsChain, IsRedone, IsReadCall, first_bad}
+use Rattle.partition_redo.specs.Chains.{PlannedView, AreAll, AllStand, IsChain, IsNewer, IsRedone, IsReadCall, first_bad}
 use Rattle.node_parts.specs.declared.fault.StepFault.{StepFault}
 use Rattle.node_parts.specs.declared.fault.StepFault.TheVariants.{NoMemory, Halted, Differs}
 use Rattle.node_parts.specs.State.{PartsView}
@@ -102,6 +102,7 @@ pub record CanRedo (c : Sizes) (me : ℕ) (pages : Pages) (logs : Logs) (r : Pla
   pub node : r.by ≡ me
   pub stand : (d : Disk) → logs ≡ Some d.logs → AllStand c d r.chains
   pub chains : (d : Disk) → pages ≡ Some d.pages → logs ≡ Some d.logs → AllByRecursion (IsChain c d) r.chains
+  pub newer : (d : Disk) → pages ≡ Some d.pages → logs ≡ Some d.logs → AllByRecursion (IsNewer d) r.chains
 
 -- a redo lists pages of a partition alone
 abbrev pub RedoesOwn : Sizes → ℕ → PlannedView → Type 0

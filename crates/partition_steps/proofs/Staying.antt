@@ -79,6 +79,9 @@ module _ (c : Sizes) (me q : ℕ) (pages : Pages) (logs : Logs) (later : Pages) 
     chains = λ e seen told.
         let was = stays.for_disk e seen told in
         chains_stay c was.d e r.chains (disks_alike c q was.d e r was.same own) (can.chains was.d was.pages_told was.logs_told);
+    newer = λ e seen told.
+        let was = stays.for_disk e seen told in
+        newer_stay c was.d e r.chains (disks_alike c q was.d e r was.same own) (can.newer was.d was.pages_told was.logs_told);
   }
 
   pub write_stays : CanWrite c me pages logs r → CanWrite c me later more r
