@@ -9,7 +9,7 @@ fn answer(alloc: Global, config: &Config, text: &str) -> Result<String, DecodeFa
         return Err(DecodeFault::NoMemory);
     };
     let message = decode(alloc, config, bytes.as_slice())?;
-    match encode(alloc, config, &message) {
+    match encode(alloc, &message) {
         Ok(again) => match hex::encode(alloc, again.as_slice()) {
             Ok(digits) => Ok(digits),
             Err(_) => Err(DecodeFault::NoMemory),

@@ -1,10 +1,10 @@
 ghost use Rattle.std.specs.Prelude.{◌≡◌, ◌++◌, ◌∷◌, [], ◌<◌, ◌^◌, ℕ, List, length, OnOk, IfOk};
 ghost use Rattle.std.specs.Int.{w32, w64, to_be_bytes};
-ghost use Rattle.text_rules.specs.MessageBytes.{tx_bytes, mode_byte, flag_byte, version_bytes, copy_bytes, change_bytes, list_bytes, wait_bytes, lock_bytes, right_bytes, body_bytes, message_bytes, IsMessage, IsBody};
+ghost use Rattle.text_rules.specs.MessageBytes.{tx_bytes, mode_byte, flag_byte, version_bytes, copy_bytes, change_bytes, list_bytes, wait_bytes, lock_bytes, right_bytes, body_bytes, message_bytes};
 
 use pcl_base::{
-    Body, Change, Config, CopyPart, Grant, Message, Mode, NoMemory, PageNo, Release, Report,
-    ReportLock, ReportRight, ReportWait, Request, ReturnRight, TxId, Version,
+    Body, Change, CopyPart, Grant, Message, Mode, NoMemory, PageNo, Release, Report, ReportLock,
+    ReportRight, ReportWait, Request, ReturnRight, TxId, Version,
 };
 use std::alloc::{AllocError, Global};
 
@@ -127,10 +127,13 @@ impl Put for ReportRight {
     }
 }
 
-fn put_list<T: Put>(out: &mut Vec<u8>, items: &[T]) -> Result<(), AllocError>
-    requires { length items.now < 2 ^ 32 }
+/// A list whose count takes more than four bytes is want of memory.
+fn put_list<T: Put>(out: &mut Vec<u8>, items: &[T]) -> Result<(), NoMemory>
     ensures { OnOk result (out.new.items ≡ out.old.items ++ list_bytes T.bytes items.now) }
 {
+    if items.len() > u32::MAX as usize {
+        return Err(NoMemory);
+    }
     put32(out, items.len() as u32)?;
     for item in items {
         item.put(out)?;
@@ -193,8 +196,7 @@ fn put_revocation(out: &mut Vec<u8>, page: u32) -> Result<(), AllocError>
     put32(out, page)
 }
 
-fn put_return(out: &mut Vec<u8>, r: &ReturnRight) -> Result<(), AllocError>
-    requires { length r.now.readers < 2 ^ 32 }
+fn put_return(out: &mut Vec<u8>, r: &ReturnRight) -> Result<(), NoMemory>
     ensures { OnOk result (out.new.items ≡ out.old.items ++ body_bytes (Body.Return r.now)) }
 {
     out.push(5)?;
@@ -202,10 +204,7 @@ fn put_return(out: &mut Vec<u8>, r: &ReturnRight) -> Result<(), AllocError>
     put_list(out, r.readers.as_slice())
 }
 
-fn put_report(out: &mut Vec<u8>, r: &Report) -> Result<(), AllocError>
-    requires waits { length r.now.waits < 2 ^ 32 }
-    requires locks { length r.now.locks < 2 ^ 32 }
-    requires rights { length r.now.rights < 2 ^ 32 }
+fn put_report(out: &mut Vec<u8>, r: &Report) -> Result<(), NoMemory>
     ensures { OnOk result (out.new.items ≡ out.old.items ++ body_bytes (Body.Report r.now)) }
 {
     out.push(6)?;
@@ -215,9 +214,11 @@ fn put_report(out: &mut Vec<u8>, r: &Report) -> Result<(), AllocError>
     put_list(out, r.rights.as_slice())
 }
 
-/// The bytes of a message of the grammar (formats, messages).
-pub fn encode(alloc: Global, config: &Config, m: &Message) -> Result<Vec<u8>, NoMemory>
-    requires { IsMessage config.now m.now }
+/// The bytes of a message (docs/formats.md, messages).
+///
+/// It answers [`NoMemory`] where there is none for the bytes, or where a list has more items than a
+/// number of four bytes counts.
+pub fn encode(alloc: Global, m: &Message) -> Result<Vec<u8>, NoMemory>
     ensures { IfOk result (λ bytes. bytes.items ≡ message_bytes m.now) }
 {
     let mut out = Vec::new(alloc);

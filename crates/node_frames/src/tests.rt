@@ -119,7 +119,7 @@ fn written_frames(rt: HostRuntime) {
         epoch: 7,
         body: Body::Revoke { page: 2 },
     };
-    let frame = encode_send(rt.alloc(), &two(), 1, &message).expect(&rt, "memory");
+    let frame = encode_send(rt.alloc(), 1, &message).expect(&rt, "memory");
     assert_eq!(rt;
         frame.as_slice(),
         b"\0\0\0\x0bM\x01\0\0\0\x07\x04\0\0\0\x02".as_slice()

@@ -2,7 +2,6 @@ ghost use Rattle.std.specs.Prelude.{◌≡◌, ◌++◌, ◌∷◌, [], codes, I
 ghost use Rattle.std.specs.Fmt.{decimal};
 ghost use Rattle.text_rules.specs.ScheduleLine.{spaced, tx_text};
 ghost use Rattle.text_rules.specs.TraceText.{ended, call_text, kept_text};
-ghost use Rattle.text_rules.specs.MessageBytes.{IsMessage};
 ghost use Rattle.frame_rules.specs.Frames.{framed, end_kind};
 ghost use Rattle.frame_rules.specs.WrittenFrames.{replies_text, replies_frame, sent_frame, end_frame, reason_text, fault_text, bad_frame_text, differs_text, long_text, halted_text};
 ghost use Rattle.frame_rules.specs.ReadFrame.{bad_frame};
@@ -11,7 +10,7 @@ ghost use Rattle.node_frames.specs.Seen.{reason_in, field_fault};
 
 use crate::fault::{FieldFault, FrameReason};
 use itoa::Buffer;
-use pcl_base::{Call, Config, Halt, Message, NoMemory, NodeNo, PageNo, Reply, TxId};
+use pcl_base::{Call, Halt, Message, NoMemory, NodeNo, PageNo, Reply, TxId};
 use schedule_text::LineReason;
 use std::alloc::Global;
 use trace_text::print_reply;
@@ -70,19 +69,14 @@ pub fn encode_replies(alloc: Global, replies: &[Reply]) -> Result<Vec<u8>, NoMem
 
 /// The frame of a message to a node.
 ///
-/// It answers [`NoMemory`] where there is none for the frame.
-pub fn encode_send(
-    alloc: Global,
-    config: &Config,
-    to: NodeNo,
-    message: &Message,
-) -> Result<Vec<u8>, NoMemory>
-    requires { IsMessage config.now message.now }
+/// It answers [`NoMemory`] where there is none for the frame, or where a list of the message has more
+/// items than a number of four bytes counts.
+pub fn encode_send(alloc: Global, to: NodeNo, message: &Message) -> Result<Vec<u8>, NoMemory>
     ensures { IfOk result (λ bytes. bytes.items ≡ sent_frame (record { to = to; message = message.now })) }
 {
     let mut payload = Vec::new(alloc);
     payload.push(to)?;
-    let bytes = messages::encode(alloc, config, message)?;
+    let bytes = messages::encode(alloc, message)?;
     put(&mut payload, &bytes)?;
     framed(alloc, b'M', &payload)
 }
