@@ -1,0 +1,10 @@
+pub mod Answering
+pub mod Beginning
+pub mod Calling
+pub mod Carrying
+pub mod Ending
+pub mod Readying
+pub mod Reporting
+pub mod Started
+pub mod Trimming
+pub mod Works
