@@ -19,6 +19,8 @@ mod ready;
 mod rooms;
 mod tell_all;
 mod telling;
+#[cfg(test)]
+mod tests;
 
 pub use accesses::access;
 pub use commits::commit;
