@@ -1,1 +1,17 @@
+mod OwnerCalls
+mod EventCalls
+mod Forceless
+mod Running
+mod Fates
+mod Coming
+mod Stepping
+mod OwnParts
+mod CopyParts
+mod Committing
+mod Arrived
+mod BrokenOff
+mod InstallParts
+mod ReportParts
+mod Behind
 mod Used
+mod Opened

@@ -3,7 +3,14 @@
 //! A node: the home of its transactions, its view and its lock tables as one value, which contracts see as
 //! the node of the rules.
 
+mod arrivals;
+mod commits;
+mod fresh;
+mod installing;
 mod node;
+mod own;
+mod reporting;
+mod step;
 #[cfg(test)]
 mod tests;
 
