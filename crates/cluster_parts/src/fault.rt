@@ -10,7 +10,7 @@ pub enum ClusterFault {
     /// Want of memory.
     NoMemory,
     /// A page was read with another number or version than it must have. This comes only where the step of
-    /// the rules reads such a page, and so in no cluster that began with `open`.
+    /// the rules reads such a page.
     Differs {
         /// The page.
         page: PageNo,

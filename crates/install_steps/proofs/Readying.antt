@@ -53,7 +53,7 @@ can_of c me q pages logs p fits rising = record { fits = fits; redo = by p.redo 
   where
     by : (o : Option PlannedView) → IfSome o (CanRedo c me pages logs) → ((d : Disk) → pages ≡ Some d.pages → logs ≡ Some d.logs → AreRising 0 (writes_by d o)) → IfSome o (CanWrite c me pages logs)
     by None can rises = tt
-    by (Some r) can rises = record { redo = can; newer = can.newer; rising = rises }
+    by (Some r) can rises = record { redo = can; rising = rises }
 
 module _ (v : PartsView) (w : View) (pages : Pages) (logs : Logs) where
   abbrev planned_at : Disk → ℕ → Outcome Planned

@@ -32,8 +32,7 @@ use node_parts::{Outputs, Parts, StepFault};
 /// it is born in it, it begins its life and trims the torn rest of its log. Then each partition, rising, is
 /// turned over, redone, put and settled as the rules say. All is planned, and all memory taken, before the
 /// first change: `NoMemory` leaves all as before. It is answered too where a node that is born in the view has
-/// begun a transaction, or the plans don't leave a table exactly where the node owns the partition; no view
-/// that the rules don't refuse comes to that.
+/// begun a transaction, or the plans don't leave a table exactly where the node owns the partition.
 ///
 /// `Halted` comes where a page or a log couldn't be read, the log couldn't be trimmed or a page couldn't be
 /// written; `Differs` names the page that was read with another number or version than it must have. After

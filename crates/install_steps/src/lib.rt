@@ -10,6 +10,8 @@ mod leaving;
 mod planned;
 mod ready;
 mod report;
+#[cfg(test)]
+mod tests;
 mod torn;
 mod working;
 

@@ -43,7 +43,7 @@ pub(crate) struct Ready {
 /// Makes all ready for the install of a view: it reads what the install reads before its first change, and
 /// takes all memory. Nothing changes, also where there is `NoMemory`. That comes too where the plans don't
 /// leave a table exactly where the node owns the partition in the view, or a node that is born in it has
-/// begun a transaction before; neither is so of a view that the rules don't refuse.
+/// begun a transaction before.
 pub(crate) fn prepare<S: Storage>(
     parts: &Parts,
     view: &View,

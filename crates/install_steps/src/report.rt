@@ -37,7 +37,7 @@ use pcl_base::{NoMemory, NodeNo, Reply, Report};
 /// A report that is taken: `Taken` is answered, and where the node rebuilds the partition, what is listed
 /// enters its table; where no further report is missing then, the partition is redone, served and settled.
 /// All is planned, and all memory taken, before the first change: `NoMemory` leaves all as before. It is
-/// answered too where the plan would add or drop a table, as that of no report does.
+/// answered too where the plan would add or drop a table.
 ///
 /// `Halted` comes where a page or a log couldn't be read or a page couldn't be written; `Differs` names the
 /// page that was read with another number or version than it must have. After these two the node may only

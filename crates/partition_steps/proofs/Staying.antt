@@ -87,9 +87,6 @@ module _ (c : Sizes) (me q : ℕ) (pages : Pages) (logs : Logs) (later : Pages) 
   pub write_stays : CanWrite c me pages logs r → CanWrite c me later more r
   write_stays can = record {
     redo = redo_stays can.redo;
-    newer = λ e seen told.
-        let was = stays.for_disk e seen told in
-        newer_stay c was.d e r.chains (disks_alike c q was.d e r was.same own) (can.newer was.d was.pages_told was.logs_told);
     rising = λ e seen told.
         let was = stays.for_disk e seen told in
         subst (AreRising 0) (sym (writes_same c q was.d e r can.redo.config was.same own)) (can.rising was.d was.pages_told was.logs_told);

@@ -16,7 +16,7 @@ use Rattle.disk_model.specs.Disk.{Pages, Logs}
 use Rattle.home.specs.Device.{Told, Made}
 use Rattle.install_laws.specs.InstallPlans.{PageWrite, Due, carry_due, put_planned, reply_if, tell}
 use Rattle.lock_table.specs.Tables.{TableView}
-use Rattle.partition_redo.specs.Chains.{PlannedView, IsNewer, IsRedoCall}
+use Rattle.partition_redo.specs.Chains.{PlannedView, IsRedoCall}
 use Rattle.node_parts.specs.State.{PartsView}
 use Rattle.node_parts.specs.Tables.{AreTidyBut}
 use Rattle.node_parts.specs.declared.fault.StepFault.{StepFault}
@@ -41,11 +41,9 @@ abbrev pub AreRising : ℕ → List PageWrite → Type 0
 AreRising low [] = ⊤
 AreRising low (x ∷ xs) = (low ≤ x.page) × AreRising (x.page + 1) xs
 
--- a redo can be carried out, its chains lead to newer pages where they have entries, and what it writes
--- rises by page
+-- a redo can be carried out, and what it writes rises by page
 pub record CanWrite (c : Sizes) (me : ℕ) (pages : Pages) (logs : Logs) (r : PlannedView) : Type 0 where
   pub redo : CanRedo c me pages logs r
-  pub newer : (d : Disk) → pages ≡ Some d.pages → logs ≡ Some d.logs → AllByRecursion (IsNewer d) r.chains
   pub rising : (d : Disk) → pages ≡ Some d.pages → logs ≡ Some d.logs → AreRising 0 (writes_by d (Some r))
 
 -- the plan of partition q can be carried out by node `me` while pages and logs are these

@@ -1,5 +1,5 @@
 -- Runs, where each step keeps the pages of its cluster related.
-use Rattle.std.specs.Prelude.{◌≡◌, ℕ, ◌<◌, ◌≤◌, true, List, Some}
+use Rattle.std.specs.Prelude.{◌≡◌, ℕ, ◌<◌, true, List, Some}
 use Rattle.std.specs.List.{AllByRecursion}
 use Rattle.pcl_base.specs.Limits.{Sizes, InLimits}
 use Rattle.pcl_base.specs.declared.event.Event.{Event}
@@ -13,22 +13,20 @@ use Rattle.cluster_rules.specs.ClusterStep.{step}
 use Rattle.cluster_rules.specs.Run.{run}
 use Rattle.cluster_rules.specs.Safe.{Safe}
 use Rattle.pcl_base.specs.declared.tx.Mode.TheVariants.{Exclusive}
-use Rattle.page_protocol.specs.Bytes.{Copy, writes}
+use Rattle.page_protocol.specs.Bytes.{writes}
 use Rattle.page_protocol.specs.State.{Page, Holding}
 use Rattle.page_relation.specs.Laws.{blank}
 use Rattle.page_relation.specs.Together.{HasPages, IsRelated}
+use Rattle.work_relation.specs.Events.{IsEntered}
 use Rattle.related_runs.specs.Parties.{HaveLiving}
 use Rattle.related_runs.specs.Parts.{HaveSerials, HaveWithin}
-
--- The owner's dirty copy isn't newer than the entry.
-abbrev pub IsEntered : Page → Type 0
-IsEntered a = (x : Copy) → a.dirty ≡ true → a.slot a.owner ≡ Some x → x.version ≤ a.entry
 
 -- Who holds the page exclusively has written it.
 abbrev pub HaveWritten : Page → Type 0
 HaveWritten a = (t : TxId) → a.home t ≡ Holding Exclusive → writes (a.script t) ≡ true
 
--- What holds of the states of pages between two events, while the machine of one page comes through others.
+-- What holds of the states of pages between two events, while the machine of one page comes through others:
+-- the owner's dirty copy isn't newer than the entry, and who holds exclusively has written.
 pub record AreBetween (c : Cluster) (page : ℕ → Page) : Type 0 where
   pub entered : (p : ℕ) → p < c.config.pages → IsEntered (page p)
   pub wrote : (p : ℕ) → p < c.config.pages → HaveWritten (page p)

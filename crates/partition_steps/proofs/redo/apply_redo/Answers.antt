@@ -27,7 +27,7 @@ returns-clause-home g c = λ d p l.
     let chains = subst (λ (k : Sizes). AllByRecursion (IsChain k d) c.args.plan.chains) (sym c.requires.redo.redo.config) (c.requires.redo.redo.chains d p l) in
     c.clean_all.ensures
     ∙ ap (cleaned c.args.home.now)
-    (c.writes.ensures ∙ ap (λ (x : PlannedView). written_pages x.chains) c.apply.ensures.plan ∙ pages_written d c.args.plan chains (c.requires.redo.newer d p l))
+    (c.writes.ensures ∙ ap (λ (x : PlannedView). written_pages x.chains) c.apply.ensures.plan ∙ pages_written d c.args.plan chains (c.requires.redo.redo.newer d p l))
 
 pub returns-clause-made : goal.returns-clause-made
 returns-clause-made g c = λ d p l.
