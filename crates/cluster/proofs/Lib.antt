@@ -1,0 +1,9 @@
+pub mod Counting
+pub mod Starting
+pub mod Opening
+pub mod NodeSteps
+pub mod Stepping
+pub mod Answering
+pub mod Delivering
+pub mod Installing
+pub mod Viewing
