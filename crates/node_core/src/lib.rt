@@ -6,6 +6,8 @@
 mod arrivals;
 mod commits;
 mod fresh;
+#[cfg(test)]
+mod install_tests;
 mod installing;
 mod node;
 mod own;
