@@ -1,0 +1,16 @@
+pub mod Walks
+pub mod Answering
+pub mod FirstReplies
+pub mod Leaving
+pub mod Noted
+pub mod Heard
+pub mod Sending
+pub mod Entered
+pub mod ByKind
+pub mod Telling
+pub mod Whole
+pub mod Sights
+pub mod SeenSteps
+pub mod Following
+pub mod SeenActs
+pub mod SeenKinds

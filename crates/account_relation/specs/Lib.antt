@@ -1,0 +1,4 @@
+pub mod Replies
+pub mod Ledgers
+pub mod World
+pub mod Seen
