@@ -1,0 +1,6 @@
+pub mod Locks
+pub mod SentParts
+pub mod Causes
+pub mod Handed
+pub mod Caused
+pub mod Accounting
