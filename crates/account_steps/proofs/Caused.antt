@@ -97,7 +97,7 @@ module _ (c : Cluster) (l : Ledger) (i : IsCluster c) (world : IsWorld c l) (are
   -- no send, since it would be a lock
   pub no_locks : (os : List Outgoing) → AreLocks os → AllByRecursion (λ o. is_lock o.message.body ≡ false) os → os ≡ []
   no_locks [] are free = refl
-  no_locks (o ∷ os) are free = let installing = are.0 in let nay = free.0 in absurd (cc)
+  no_locks (o ∷ os) are free = let lock = are.0 in let none = free.0 in absurd (cc)
 
   -- the owner of a page, as the ledger has it
   pub owner_heard : (v : View) (q : ℕ) → p.node.view ≡ Some v → owner_for (heard X l) n q ≡ page_owner p.node q
