@@ -4,3 +4,4 @@ pub mod Causes
 pub mod Handed
 pub mod Caused
 pub mod Accounting
+pub mod Lockless
