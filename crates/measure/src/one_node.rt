@@ -23,7 +23,7 @@ pub(crate) fn run(alloc: Global, lines: u32) -> Result<Counts, AllocError> {
     let Ok(mut sink) = MemSink::open(alloc, capacity, PIECE, Vec::new(alloc)) else {
         return Err(AllocError);
     };
-    let status = replay(alloc, &mut source, &mut sink);
+    let status = replay(alloc, &mut source, &mut sink, false);
     Ok(Counts {
         input,
         output: sink.bytes().len(),

@@ -7,7 +7,7 @@ use Rattle.text_rules.specs.ScheduleLine.{header_line}
 use Rattle.text_rules.specs.Generator.{made_events, made_text}
 use Rattle.pcl_base.specs.Limits.{Sizes}
 use Rattle.text_rules.specs.TraceText.{ended}
-use Rattle.replay.specs.Outcome.{AppendsPart}
+use Rattle.replay_rules.specs.Outcome.{AppendsPart}
 use Rattle.schedule_gen.specs.Links.{first_of, rest_of}
 use Rattle.pcl_cli.specs.MakeText.{lines_of, Passes, Passed, IsCause}
 use Rattle.pcl_cli.specs.declared.make.Stop.{Stop}

@@ -6,7 +6,7 @@ use Rattle.pcl_base.specs.Faults.{Rose}
 use Rattle.pcl_base.specs.declared.event.Event.{Event}
 use Rattle.text_rules.specs.ScheduleLine.{line_of}
 use Rattle.text_rules.specs.TraceText.{ended}
-use Rattle.replay.specs.Outcome.{AppendsPart}
+use Rattle.replay_rules.specs.Outcome.{AppendsPart}
 use Rattle.pcl_cli.specs.declared.make.Stop.{Stop}
 use Rattle.pcl_cli.specs.declared.make.Stop.TheVariants.{Sink, Memory}
 

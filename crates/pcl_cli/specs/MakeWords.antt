@@ -1,6 +1,6 @@
 -- The words that ask for a generated schedule.
 use Rattle.std.specs.Prelude.{ℕ, ◌==◌, ◌&&◌, Bool, nat_le, List, [], length, slice_index_or, codes, ◌||◌, is_some, Option, Some}
-use Rattle.pcl_cli.specs.Words.{is_replay}
+use Rattle.pcl_cli.specs.Words.{totals_of}
 use Rattle.std.specs.List.{list_all}
 use Rattle.std.specs.Char.{is_ascii_digit}
 use Rattle.std.specs.Cmp.Lexicographic.{pointwise}
@@ -51,4 +51,4 @@ job_of words = do
 
 -- whether the words are a form
 abbrev pub is_form : List (List ℕ) → Bool
-is_form words = is_replay words || is_some (job_of words)
+is_form words = is_some (totals_of words) || is_some (job_of words)

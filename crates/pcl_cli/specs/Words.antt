@@ -1,15 +1,26 @@
 -- Which words are a form, and what is written where they are none.
-use Rattle.std.specs.Prelude.{◌≡◌, ℕ, ◌≤◌, ◌==◌, ◌⊎◌, Bool, false, List, [], ◌∷◌, ◌++◌, codes, Option}
+use Rattle.std.specs.Prelude.{◌≡◌, ℕ, ◌≤◌, ◌==◌, ◌⊎◌, Bool, true, false, List, [], ◌∷◌, ◌++◌, codes, Option, Some, None}
 use Rattle.std.specs.Cmp.Lexicographic.{pointwise}
 use Rattle.std.specs.Io.KnownBytes.{Appends}
 use Rattle.pcl_base.specs.Faults.{Rose}
-use Rattle.replay.specs.Outcome.{AppendsPart}
+use Rattle.replay_rules.specs.Outcome.{AppendsPart}
 
--- whether the bytes of the words are the one word `replay`
-abbrev pub is_replay : List (List ℕ) → Bool
-is_replay [] = false
-is_replay (word ∷ []) = pointwise ◌==◌ word (codes "replay")
-is_replay (word ∷ other ∷ words) = false
+-- x at true, else y
+abbrev pub pick : {X : Type 0} → Bool → X → X → X
+pick true x y = x
+pick false x y = y
+
+-- whether the word asks for the totals of a run, or for its trace, or for neither
+abbrev pub totals_of_word : List ℕ → Option Bool
+totals_of_word word =
+    pick (pointwise ◌==◌ word (codes "replay")) (Some false)
+    (pick (pointwise ◌==◌ word (codes "summary")) (Some true) None)
+
+-- the same of words: `replay` or `summary` alone
+abbrev pub totals_of : List (List ℕ) → Option Bool
+totals_of [] = None
+totals_of (word ∷ []) = totals_of_word word
+totals_of (word ∷ other ∷ words) = None
 
 abbrev pub usage_line : List ℕ
 usage_line =

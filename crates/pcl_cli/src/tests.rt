@@ -11,17 +11,21 @@ const PLAIN_PATH: &[u8] =
 const TEXT: &[u8] =
     b"> pcl 1 1 1 8 4\n> begin 0\nbegun 0.1.1\n> write 0.1.1 0 2 beef\ndone 0.1.1 0 0\n> read 0.1.1 0\nvalue 0.1.1 0 0 0000beef00000000\n> commit 0.1.1\ncommitted 0.1.1\n> begin 0\nbegun 0.1.2\n> read 0.1.2 0\nvalue 0.1.2 0 1 0000beef00000000\n> commit 0.1.2\ncommitted 0.1.2\nend 7 2\n";
 
-/// The status and the text of the plain path in pieces of so many bytes, where the calls of
-/// these numbers fail; a call of number 0 never comes.
-fn replayed(
+const TOTALS: &[u8] =
+    b"events 7\nbegun 2\nvalues 2\ndone 1\nwaits 0\ncommitted 2\naborted 0\nheld 0\ndropped 0\nrefused 0\nhalted 0\nrequests 0\ngrants 0\nreleases 0\nrevokes 0\nreturns 0\nreports 0\nimages 0\n";
+
+/// The status and the text that a word gives of the plain path in pieces of so many bytes, where the
+/// calls of these numbers fail; a call of number 0 never comes.
+fn told(
     alloc: Global,
+    word: &str,
     piece: usize,
     failing_read: u64,
     failing_write: u64,
 ) -> Result<(u8, Vec<u8>), Fail>
     requires { 1 ≤ piece }
 {
-    let words = vec![in alloc; String::from_str(alloc, "replay")?]?;
+    let words = vec![in alloc; String::from_str(alloc, word)?]?;
     let mut input = MemSource::new(
         Vec::from_slice(alloc, PLAIN_PATH)?,
         piece,
@@ -30,6 +34,26 @@ fn replayed(
     let mut output = MemSink::open(alloc, 1_000, piece, vec![in alloc; failing_write]?)?;
     let status = run(alloc, &words, &mut input, &mut output);
     Ok((status, Vec::from_slice(alloc, output.bytes())?))
+}
+
+/// The same of the word `replay`.
+fn replayed(
+    alloc: Global,
+    piece: usize,
+    failing_read: u64,
+    failing_write: u64,
+) -> Result<(u8, Vec<u8>), Fail>
+    requires { 1 ≤ piece }
+{
+    told(alloc, "replay", piece, failing_read, failing_write)
+}
+
+#[test]
+fn totals_of_the_plain_path(rt: HostRuntime) -> Result<(), Fail> {
+    let (status, text) = told(rt.alloc(), "summary", 7, 0, 0)?;
+    assert_eq!(rt; status, 0);
+    assert_eq!(rt; text.as_slice(), TOTALS);
+    Ok(())
 }
 
 #[test]

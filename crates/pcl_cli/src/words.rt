@@ -1,6 +1,6 @@
-ghost use Rattle.std.specs.Prelude.{◌≡◌, Some, map, string_bytes, false, IsTrue};
+ghost use Rattle.std.specs.Prelude.{◌≡◌, Bool, Some, None, map, string_bytes, false};
 ghost use Rattle.text_rules.specs.Generator.{made_text};
-ghost use Rattle.pcl_cli.specs.Words.{is_replay as is_replay_spec, IsRefused};
+ghost use Rattle.pcl_cli.specs.Words.{totals_of as totals_of_spec, totals_of_word, IsRefused};
 ghost use Rattle.pcl_cli.specs.MakeWords.{Job, job_of as job_of_spec, is_form};
 ghost use Rattle.pcl_cli.specs.MakeText.{IsMade};
 ghost use Rattle.replay.specs.Outcome.{Outcome};
@@ -17,8 +17,8 @@ const USAGE: &[u8] =
 
 /// Does the job that the words ask for, and answers the exit status.
 ///
-/// The words `replay` run the schedule that the source gives, with the statuses of [`replay`]. The
-/// words `make SEED LINES NODES PAGES SIZE FRAMES` write a generated schedule and read nothing; the
+/// The words `replay` and `summary` run the schedule that the source gives, and write its trace or the
+/// totals of that, with the statuses of [`replay`]. The words `make SEED LINES NODES PAGES SIZE FRAMES` write a generated schedule and read nothing; the
 /// status is 0, or 5 where the sink failed, or 9 for want of memory. SEED is 0 to 65,535, LINES 1
 /// to 199,999, and the other four numbers are those of a configuration. Any other words are answered
 /// by the usage line and status 2, or by 5 where the sink failed.
@@ -28,13 +28,13 @@ pub fn run<I: Source, O: Sink>(
     input: &mut I,
     output: &mut O,
 ) -> u8
-    ensures replay { IsTrue (is_replay_spec (map (λ w. string_bytes w) words.now.items)) → Outcome (I.left input.old) (I.left input.new) (O.written output.old) (O.written output.new) (I.faults input.old) (I.faults input.new) (O.faults output.old) (O.faults output.new) result }
+    ensures replay { (totals : Bool) → totals_of_spec (map (λ w. string_bytes w) words.now.items) ≡ Some totals → Outcome totals (I.left input.old) (I.left input.new) (O.written output.old) (O.written output.new) (I.faults input.old) (I.faults input.new) (O.faults output.old) (O.faults output.new) result }
     ensures make { (j : Job) → job_of_spec (map (λ w. string_bytes w) words.now.items) ≡ Some j → IsMade (O.written output.old) (O.written output.new) (O.faults output.old) (O.faults output.new) result (made_text j.sizes j.seed j.lines) }
     ensures usage { is_form (map (λ w. string_bytes w) words.now.items) ≡ false → IsRefused (O.written output.old) (O.written output.new) (O.faults output.old) (O.faults output.new) result }
-    ensures untouched { is_replay_spec (map (λ w. string_bytes w) words.now.items) ≡ false → input.new ≡ input.old }
+    ensures untouched { totals_of_spec (map (λ w. string_bytes w) words.now.items) ≡ None → input.new ≡ input.old }
 {
-    if is_replay(words) {
-        return replay(alloc, input, output);
+    if let Some(totals) = totals_of(words) {
+        return replay(alloc, input, output, totals);
     }
     if let Some(job) = job_of(words) {
         return make(alloc, &job, output);
@@ -42,14 +42,27 @@ pub fn run<I: Source, O: Sink>(
     refuse(output)
 }
 
-/// Whether the words are the one word `replay`.
-fn is_replay(words: &Vec<String>) -> bool
-    ensures { result ≡ is_replay_spec (map (λ w. string_bytes w) words.now.items) }
+/// Whether the words ask for the totals of a run, or for its trace, or for neither.
+fn totals_of(words: &Vec<String>) -> Option<bool>
+    ensures { result ≡ totals_of_spec (map (λ w. string_bytes w) words.now.items) }
 {
     match words.as_slice() {
-        [word] => word.as_bytes() == b"replay".as_slice(),
-        _ => false,
+        [word] => word_totals(word.as_bytes()),
+        _ => None,
     }
+}
+
+/// The same of the one word that there is.
+fn word_totals(word: &[u8]) -> Option<bool>
+    ensures { result ≡ totals_of_word word.now }
+{
+    if word == b"replay".as_slice() {
+        return Some(false);
+    }
+    if word == b"summary".as_slice() {
+        return Some(true);
+    }
+    None
 }
 
 /// Writes the usage line.

@@ -1,10 +1,13 @@
-mod NodeLemmas
-pub mod CopyLaws
-pub mod SingleRunLaws
-pub mod InputLaws
-mod StepLemmas
+pub mod EqualEvents
+pub mod Counts
 mod EndLemmas
-mod RunLemmas
-mod TracedLaws
-mod RanLemmas
+mod Going
+mod Pieces
 mod BadLineLemmas
+mod Steps
+mod Lines
+mod Telling
+mod Alone
+mod Reaching
+mod Outcomes
+mod Endings

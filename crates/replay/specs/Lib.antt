@@ -1,9 +1,5 @@
-pub mod SingleRun
-pub mod NodeView
-pub mod Due
-pub mod TracedRun
 pub mod ReaderView
+pub mod TracedRun
 pub mod Outcome
+pub mod Told
 pub mod Wrote
-pub mod SingleRows
-pub mod RunOfInput

@@ -1,39 +1,68 @@
 -- What a run leaves of the input and of the output, by its status.
-use Rattle.std.specs.Prelude.{◌≡◌, ℕ, ◌==◌, ◌||◌, ◌⊎◌, Bool, List, ◌++◌, Option, IsTrue}
-use Rattle.std.specs.Io.KnownBytes.{Appends, Consumes, IsAtEnd}
+use Rattle.std.specs.Prelude.{◌≡◌, ℕ, ◌+◌, ◌==◌, ◌||◌, ◌⊎◌, Bool, List, ◌∷◌, ◌++◌, codes, Option, Some, IsTrue}
+use Rattle.std.specs.Io.KnownBytes.{Appends, Consumes}
 use Rattle.pcl_base.specs.Faults.{Rose}
+use Rattle.pcl_base.specs.declared.event.Event.{Event}
+use Rattle.text_rules.specs.ReadEvent.{event_of}
+use Rattle.text_rules.specs.ScheduleLine.{spaced}
+use Rattle.text_rules.specs.TraceText.{ended}
+use Rattle.cluster_rules.specs.Clusters.{Cluster}
+use Rattle.cluster_parts.specs.Ends.{StepDiffers}
+use Rattle.replay_rules.specs.Due.{Reading, Place, first_place, read_from}
+use Rattle.replay_rules.specs.Due.Place.{Going}
+use Rattle.replay_rules.specs.Outcome.{is_judged}
+use Rattle.replay_rules.specs.Outcome.{Outcome as OutcomeOfRules}
 use Rattle.replay.specs.TracedRun.{IsTraced}
-use Rattle.replay.specs.Due.{first_place, read_from, due}
-use Rattle.replay.specs.Due.Place.{Stopped}
 
--- a beginning of the text was appended
-abbrev pub AppendsPart : Option (List ℕ) → Option (List ℕ) → List ℕ → Type 0
-AppendsPart old new text = (part : List ℕ) × (rest : List ℕ) × (text ≡ part ++ rest) × Appends old new part
+-- the line that was read is an event, in whose step of the rules a node reads a page that differs
+pub record DiffersNext (r : Reading) : Type 0 where
+  pub cluster : Cluster
+  pub event : Event
+  pub page : ℕ
+  pub expected : ℕ
+  pub found : ℕ
+  pub here : r.cluster ≡ Some cluster
+  pub line : event_of r.part ≡ Some event
+  pub step : StepDiffers cluster event page expected found
 
--- the statuses of a run that a line decides, and of one that is decided by its input alone
-abbrev pub is_stop : ℕ → Bool
-is_stop status = status == 3 || status == 7 || status == 8
+-- the last line at an event that is left
+abbrev pub later_text : ℕ → List ℕ
+later_text line = ended (codes "later" ++ spaced line)
 
-abbrev pub is_judged : ℕ → Bool
-is_judged status = status == 0 || is_stop status
+-- at status 8 a text ends with that line
+abbrev pub IsLast : Option ℕ → List ℕ → Type 0
+IsLast status text = status ≡ Some 8 → (before : List ℕ) × (line : ℕ) × (text ≡ before ++ later_text line)
 
--- A run that is decided: its status and its text are due to the bytes that were taken. At 0 these
--- are the whole input, and the text is that of a fresh and serial trace.
-pub record IsJudged (taken : List ℕ) (left written written' : Option (List ℕ)) (status : ℕ) : Type 0 where
-  pub place : (due taken).place ≡ Stopped status
-  pub text : Appends written written' (due taken).text
-  pub end : status ≡ 0 → IsAtEnd left
-  pub traced : status ≡ 0 → IsTraced (due taken).text
+-- Behind a front of some bytes, by the rules, comes a line in whose step a page differs. The text due to
+-- that front was written. Nothing is said of what was written behind it, but of the last line at status 8.
+pub record HasDiffered (totals : Bool) (from : Place) (bytes : List ℕ) (written written' : Option (List ℕ)) (status : Option ℕ) : Type 0 where
+  pub front : List ℕ
+  pub rest : List ℕ
+  pub reading : Reading
+  pub more : List ℕ
+  pub split : bytes ≡ front ++ 10 ∷ rest
+  pub place : (read_from totals from front).place ≡ Going reading
+  pub differs : DiffersNext reading
+  pub text : Appends written written' ((read_from totals from front).text ++ more)
+  pub last : IsLast status more
 
--- The outcome of a run, of which `taken` are the bytes that the source gave: 0, 3, 7 and 8 are due
--- to these bytes, and their whole text is written; 4 comes only where the source failed, with the
--- text of the lines that were read whole; 5 comes only where the sink failed; at 5 and at 9, want
--- of memory, a beginning of the text is written.
-pub record Outcome (left left' written written' : Option (List ℕ)) (source source' sink sink' status : ℕ) : Type 0 where
+-- a run as the rules say; and at 0 the whole run of a schedule was told
+pub record GoesByRules (totals : Bool) (left left' written written' : Option (List ℕ)) (source source' sink sink' status : ℕ) : Type 0 where
+  pub outcome : OutcomeOfRules totals left left' written written' source source' sink sink' status
+  pub traced : status ≡ 0 → IsTraced totals left left' written written'
+
+-- the statuses of a run
+abbrev pub is_status : ℕ → Bool
+is_status status = is_judged status || (status == 4 || (status == 5 || (status == 8 || status == 9)))
+
+-- The outcome of a run, of which `taken` are the bytes that the source gave, and `totals` tells whether
+-- the totals are written in place of the trace. It is that of the rules, unless somewhere in the bytes
+-- taken a step of the rules reads a page that differs. Only then 8 comes. 4 comes only where the source
+-- failed, 5 only where the sink failed, and 9 is want of memory.
+pub record Outcome (totals : Bool) (left left' written written' : Option (List ℕ)) (source source' sink sink' status : ℕ) : Type 0 where
   pub taken : List ℕ
   pub consumed : Consumes left left' taken
-  pub known : IsTrue (is_judged status || (status == 4 || (status == 5 || status == 9)))
-  pub judged : IsTrue (is_judged status) → IsJudged taken left' written written' status
-  pub failed_source : status ≡ 4 → Rose source source' × Appends written written' (read_from first_place taken).text
+  pub known : IsTrue (is_status status)
+  pub failed_source : status ≡ 4 → Rose source source'
   pub failed_sink : status ≡ 5 → Rose sink sink'
-  pub part : (status ≡ 5) ⊎ (status ≡ 9) → AppendsPart written written' (due taken).text
+  pub runs : GoesByRules totals left left' written written' source source' sink sink' status ⊎ HasDiffered totals first_place taken written written' (Some status)

@@ -1,20 +1,15 @@
--- The text of a whole run, and what its trace tells of the pages.
-use Rattle.std.specs.Prelude.{◌≡◌, ℕ, List, Ok}
-use Rattle.pcl_base.specs.Limits.{Sizes, config_of}
-use Rattle.pcl_base.specs.declared.event.Header.{Header}
-use Rattle.pcl_base.specs.declared.event.Event.{Event}
-use Rattle.text_rules.specs.TraceText.{trace_text}
+-- A whole run that was told, and what its trace tells of the pages.
+use Rattle.std.specs.Prelude.{◌≡◌, ℕ, Bool, List, Option}
+use Rattle.cluster_rules.specs.Run.{last}
 use Rattle.run_rules.specs.Fresh.{IsFresh}
 use Rattle.run_rules.specs.Serial.{IsSerial}
-use Rattle.replay.specs.SingleRun.{run_of}
+use Rattle.single_laws.specs.Alone.{OneAtATime}
+use Rattle.replay_rules.specs.Schedule.{RanWhole}
 
--- The text is that of a run of some events over the configuration of its first line, and the run is
--- fresh and serial.
-pub record IsTraced (text : List ℕ) : Type 0 where
-  pub header : Header
-  pub sizes : Sizes
-  pub events : List Event
-  pub made : config_of header.nodes header.pages header.size header.frames ≡ Ok sizes
-  pub told : text ≡ trace_text header (run_of sizes events)
-  pub fresh : IsFresh sizes (run_of sizes events)
-  pub serial : IsSerial sizes (run_of sizes events)
+-- All of the input was read, it is a schedule, and the text of its run is written. And where that is a
+-- run of one node in which nothing fails, with at most one transaction open at a time, it is fresh and
+-- serial.
+pub record IsTraced (totals : Bool) (left left' written written' : Option (List ℕ)) : Type 0 where
+  pub run : RanWhole totals left left' written written'
+  pub fresh : run.sizes.nodes ≡ 1 → OneAtATime run.sizes run.events → IsFresh run.sizes (last run.sizes run.events).trace
+  pub serial : run.sizes.nodes ≡ 1 → OneAtATime run.sizes run.events → IsSerial run.sizes (last run.sizes run.events).trace

@@ -1,12 +1,15 @@
--- What a part of a run writes and reads.
-use Rattle.std.specs.Prelude.{◌≡◌, ℕ, ◌≤◌, List, Option, Some, None, Result, Ok, Err, IsTrue, OnOk, OnErr, IfErr}
+-- What a part of a run reads and writes.
+use Rattle.std.specs.Prelude.{◌≡◌, ℕ, ◌≤◌, ◌⊎◌, List, Option, None, Result, Ok, Err, OnOk, OnErr, IfErr}
 use Rattle.std.specs.Io.KnownBytes.{Appends, Consumes}
 use Rattle.pcl_base.specs.Faults.{Rose}
+use Rattle.replay_rules.specs.Due.{read_from, at_end}
+use Rattle.replay_rules.specs.Due.Place.{Going}
+use Rattle.replay_rules.specs.Outcome.{AppendsPart}
 use Rattle.replay.specs.declared.ends.Fault.{Fault}
 use Rattle.replay.specs.declared.ends.Fault.TheVariants.{Source, Sink, Memory}
-use Rattle.replay.specs.Due.{Reading, first_place, read_from, due}
-use Rattle.replay.specs.Due.Place.{Going}
-use Rattle.replay.specs.Outcome.{AppendsPart, IsJudged, is_judged, is_stop}
+use Rattle.replay.specs.Outcome.{HasDiffered}
+use Rattle.replay.specs.ReaderView.{ReaderView, HasCounts, place_of}
+use Rattle.replay.specs.Told.{IsRuleStop}
 
 -- the sink failed, or memory ran out
 abbrev pub IsWriteFault : ℕ → ℕ → Fault → Type 0
@@ -14,39 +17,58 @@ IsWriteFault sink sink' Source = ⊥
 IsWriteFault sink sink' Sink = Rose sink sink'
 IsWriteFault sink sink' Memory = Unit {0}
 
--- the whole text was written, or a beginning of it and then there was a fault
-pub record Wrote {X : Type 0} (old new : Option (List ℕ)) (sink sink' : ℕ) (text : List ℕ) (result : Result X Fault) : Type 0 where
+-- the count of the sink never falls, and a fault is that of the sink or of memory
+pub record HasBlame {X : Type 0} (sink sink' : ℕ) (result : Result X Fault) : Type 0 where
   pub later : sink ≤ sink'
-  pub whole : OnOk result (Appends old new text)
-  pub part : OnErr result (AppendsPart old new text)
   pub cause : IfErr result (IsWriteFault sink sink')
 
--- a status that a line decides, if any
-abbrev pub IsStop : Option ℕ → Type 0
-IsStop None = Unit {0}
-IsStop (Some status) = IsTrue (is_stop status)
+-- the whole text was written, or a beginning of it and then there was a fault
+pub record Wrote {X : Type 0} (old new : Option (List ℕ)) (text : List ℕ) (result : Result X Fault) : Type 0 where
+  pub whole : OnOk result (Appends old new text)
+  pub part : OnErr result (AppendsPart old new text)
 
--- reading goes on at r, behind all bytes that the source gave
-pub record Reached (left left' written written' : Option (List ℕ)) (source source' sink sink' : ℕ) (r : Reading) : Type 0 where
+-- bytes were read as the rules say, and their text was written
+pub record GoesOn (v : ReaderView) (bytes : List ℕ) (written written' : Option (List ℕ)) (status : Option ℕ) (w : ReaderView) : Type 0 where
+  pub place : (read_from v.totals (Going v.reading) bytes).place ≡ place_of status w.reading
+  pub text : Appends written written' (read_from v.totals (Going v.reading) bytes).text
+  pub stop : IsRuleStop status
+  pub totals : w.totals ≡ v.totals
+  pub counts : HasCounts v → HasCounts w
+
+-- bytes were read, as the rules say or with a page that differs
+abbrev pub Went : ReaderView → List ℕ → Option (List ℕ) → Option (List ℕ) → Option ℕ → ReaderView → Type 0
+Went v bytes written written' status w =
+    GoesOn v bytes written written' status w ⊎ HasDiffered v.totals (Going v.reading) bytes written written' status
+
+-- a fault came while bytes were read
+abbrev pub Broke : ReaderView → List ℕ → Option (List ℕ) → Option (List ℕ) → Type 0
+Broke v bytes written written' =
+    AppendsPart written written' (read_from v.totals (Going v.reading) bytes).text
+    ⊎ HasDiffered v.totals (Going v.reading) bytes written written' None
+
+-- what became of some bytes
+abbrev pub Took : ReaderView → List ℕ → Option (List ℕ) → Option (List ℕ) → Result (Option ℕ) Fault → ReaderView → Type 0
+Took v bytes written written' (Ok status) w = Went v bytes written written' status w
+Took v bytes written written' (Err fault) w = Broke v bytes written written'
+
+-- what became of the end of the input: some text was written, which is due where the counts are those of
+-- the trace
+pub record Closes (v : ReaderView) (written written' : Option (List ℕ)) (result : Result ℕ Fault) : Type 0 where
+  pub text : List ℕ
+  pub wrote : Wrote written written' text result
+  pub due : HasCounts v → text ≡ (at_end v.totals (Going v.reading)).text
+
+-- bytes were read so far, and reading goes on
+pub record Reached (v : ReaderView) (left left' written written' : Option (List ℕ)) (source source' sink sink' : ℕ) (w : ReaderView) : Type 0 where
   pub taken : List ℕ
   pub consumed : Consumes left left' taken
-  pub place : (read_from first_place taken).place ≡ Going r
-  pub text : Appends written written' (read_from first_place taken).text
+  pub went : Went v taken written written' None w
   pub later_source : source ≤ source'
   pub later_sink : sink ≤ sink'
 
--- what a fault leaves of a run
-abbrev pub Fails : Option (List ℕ) → Option (List ℕ) → ℕ → ℕ → ℕ → ℕ → List ℕ → Fault → Type 0
-Fails written written' source source' sink sink' taken Source = Rose source source' × Appends written written' (read_from first_place taken).text
-Fails written written' source source' sink sink' taken Sink = Rose sink sink' × AppendsPart written written' (due taken).text
-Fails written written' source source' sink sink' taken Memory = AppendsPart written written' (due taken).text
-
--- what a run ends with
-abbrev pub Ends : Option (List ℕ) → Option (List ℕ) → Option (List ℕ) → ℕ → ℕ → ℕ → ℕ → List ℕ → Result ℕ Fault → Type 0
-Ends left written written' source source' sink sink' taken (Ok status) = IsTrue (is_judged status) × IsJudged taken left written written' status
-Ends left written written' source source' sink sink' taken (Err fault) = Fails written written' source source' sink sink' taken fault
-
-pub record Ran (left left' written written' : Option (List ℕ)) (source source' sink sink' : ℕ) (result : Result ℕ Fault) : Type 0 where
-  pub taken : List ℕ
-  pub consumed : Consumes left left' taken
-  pub ends : Ends left' written written' source source' sink sink' taken result
+-- the status of a run
+abbrev pub status_of : Result ℕ Fault → ℕ
+status_of (Ok status) = status
+status_of (Err Source) = 4
+status_of (Err Sink) = 5
+status_of (Err Memory) = 9

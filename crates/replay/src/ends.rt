@@ -1,7 +1,7 @@
 ghost use Rattle.std.specs.Prelude.{◌≡◌, ◌≤◌, length, MatchResult};
 ghost use Rattle.std.specs.Io.KnownBytes.{Appends};
 ghost use Rattle.pcl_base.specs.Faults.{HasCause};
-ghost use Rattle.replay.specs.Outcome.{AppendsPart};
+ghost use Rattle.replay_rules.specs.Outcome.{AppendsPart};
 
 use pcl_base::{Failed, Sink};
 

@@ -1,16 +1,17 @@
 #![tactic(auto)]
 
-//! Runs a schedule of one node and writes what its events gave.
+//! Runs a schedule in a cluster of its own, and writes its trace or the totals of that.
 
+mod added;
+mod counter;
+mod cuts;
 mod ends;
-mod image;
-mod laws;
-mod node;
 mod reader;
-mod rows;
 mod run;
-mod slot;
 mod text;
 
 pub use ends::write_all;
 pub use run::replay;
+
+#[cfg(test)]
+mod tests;

@@ -1,11 +1,16 @@
-ghost use Rattle.std.specs.Prelude.{◌≡◌, ◌+◌, ◌++◌, ◌<◌, ◌≤◌, false, length, OnOk, IfOk, IsSome, IsTrue};
+ghost use Rattle.std.specs.Prelude.{◌≡◌, ◌+◌, ◌++◌, ◌<◌, OnOk, IfOk, IsSome, IsTrue};
 
-use crate::node::Node;
+use crate::added::added;
+use crate::counter::Counter;
+use crate::cuts::{cut_event, cut_header};
 use crate::text::Text;
+use cluster::Cluster;
+use cluster_parts::ClusterFault;
 use pcl_base::{Config, Event, Header, NoMemory};
 use schedule_text::{LineFault, LineReason, read_header, read_line};
 use std::alloc::Global;
 use std::marker::Model;
+use std::mem;
 
 /// The most lines of a schedule.
 const MOST_LINES: u32 = 200_000;
@@ -14,57 +19,81 @@ const MOST_LINES: u32 = 200_000;
 const MOST_BYTES: usize = 8_235;
 
 /// Reads a schedule byte by byte and runs its lines.
-#[derive(Debug, Drop)]
+///
+/// It can't be dropped: `close` ends it.
 pub(crate) struct Reader {
     alloc: Global,
+    /// Whether the totals are told in place of the trace.
+    totals: bool,
+    /// The whole lines so far.
     lines: u32,
+    /// The bytes of the next line so far.
     part: Vec<u8>,
-    node: Option<Node>,
-    commits: u32,
+    /// The cluster, once there is a header.
+    cluster: Option<Cluster>,
+    counter: Counter,
 }
 
 impl Model for Reader {
-    ghost use Rattle.replay.specs.Due.{Reading};
-    ghost use Rattle.replay.specs.ReaderView.{IsCounted};
+    ghost use Rattle.std.specs.Prelude.{◌≤◌};
+    ghost use Rattle.replay.specs.ReaderView.{ReaderView, reader_of};
 
-    ghost Value = { Reading };
+    ghost Value = { ReaderView };
 
-    ghost view = { λ r. record { lines = r.lines; part = r.part.items; single = r.node; commits = r.commits } };
+    ghost view = { λ r. reader_of r.totals r.lines r.part.items r.cluster r.counter };
 
-    ghost invariant = { λ r. IsCounted (record { lines = r.lines; part = r.part.items; single = r.node; commits = r.commits }) };
+    ghost invariant = { λ r. r.lines ≤ 200000 };
 }
 
 impl Reader {
     ghost use Rattle.std.specs.Prelude.{None, Some, []};
-    ghost use Rattle.replay.specs.Due.{fed as fed_spec, at_end, last_line, bad_line, with_header, judged};
-    ghost use Rattle.text_rules.specs.BadLine.{bad_at, bad_text, header_forms, event_forms};
-    ghost use Rattle.text_rules.specs.BadLine.Why.{Cut};
-    ghost use Rattle.schedule_text.specs.LineAnswer.{why_of};
-    ghost use Rattle.replay.specs.Due.Place.{Going, Stopped};
-    ghost use Rattle.text_rules.specs.ScheduleLine.{header_line, line_of};
-    ghost use Rattle.replay.specs.ReaderView.{place_of, taken_by, line_taken};
+    ghost use Rattle.text_rules.specs.BadLine.{bad_text};
+    ghost use Rattle.text_rules.specs.ScheduleLine.{HasLine, header_line, spaced};
     ghost use Rattle.text_rules.specs.ReadLine.{header_of};
     ghost use Rattle.text_rules.specs.ReadEvent.{event_of};
-    ghost use Rattle.replay.specs.Outcome.{is_judged};
-    ghost use Rattle.replay.specs.Wrote.{IsStop};
+    ghost use Rattle.text_rules.specs.TraceText.{ended};
+    ghost use Rattle.schedule_text.specs.LineAnswer.{why_of};
+    ghost use Rattle.replay_rules.specs.Due.{fed as fed_spec, at_end, with_header, judged};
+    ghost use Rattle.replay_rules.specs.Due.Place.{Going, Stopped};
+    ghost use Rattle.replay_rules.specs.Outcome.{is_judged};
+    ghost use Rattle.replay.specs.ReaderView.{HasCounts, first_reader, place_of};
+    ghost use Rattle.replay.specs.Told.{Feeds, IsRuleStop, IsStop, Tells, TellsLast, TellsSome, line_told};
 
     /// A reader before the first byte. It takes no memory.
-    pub(crate) fn new(alloc: Global) -> Reader
-        ensures { result ≡ record { lines = 0; part = []; single = None; commits = 0 } }
+    pub(crate) fn new(alloc: Global, totals: bool) -> Reader
+        ensures { result ≡ first_reader totals }
     {
         Reader {
             alloc,
+            totals,
             lines: 0,
             part: Vec::new(alloc),
-            node: None,
-            commits: 0,
+            cluster: None,
+            counter: Counter::new(),
+        }
+    }
+
+    /// Lets its cluster go. It takes no memory.
+    pub(crate) fn close(self) {
+        let Reader {
+            alloc: _alloc,
+            totals: _totals,
+            lines: _lines,
+            part: _part,
+            cluster,
+            counter: _counter,
+        } = self;
+        match cluster {
+            Some(cluster) => cluster.close(),
+            None => {}
         }
     }
 
     /// Appends the last line of a run that is over, and gives its status.
     fn stop(&mut self, word: &[u8], status: u8, text: &mut Text) -> Result<Option<u8>, NoMemory>
-        ensures text { OnOk result (text.new ≡ text.old ++ last_line word.now self.old.lines) }
+        ensures text { OnOk result (text.new ≡ text.old ++ ended (word.now ++ spaced (self.old.reading.lines + 1))) }
         ensures status { IfOk result (λ s. s ≡ Some status) }
+        ensures same { self.new ≡ self.old }
     {
         text.last(word, self.lines)?;
         Ok(Some(status))
@@ -77,8 +106,9 @@ impl Reader {
         reason: LineReason,
         text: &mut Text,
     ) -> Result<Option<u8>, NoMemory>
-        ensures text { OnOk result (text.new ≡ text.old ++ bad_text (self.old.lines + 1) column (why_of reason)) }
+        ensures text { OnOk result (text.new ≡ text.old ++ bad_text (self.old.reading.lines + 1) column (why_of reason)) }
         ensures status { IfOk result (λ s. s ≡ Some 3) }
+        ensures same { self.new ≡ self.old }
     {
         match reason {
             LineReason::Byte => text.bad(self.lines, column, b"byte")?,
@@ -87,13 +117,16 @@ impl Reader {
         Ok(Some(3))
     }
 
-    /// The first line: its numbers make a configuration of one node.
+    /// The first line: its numbers make a configuration, over which a cluster opens.
     fn start(&mut self, header: Header, text: &mut Text) -> Result<Option<u8>, NoMemory>
-        requires room { self.old.lines < 200_000 }
-        requires line { header_line header ≡ self.old.part }
-        ensures text { OnOk result (text.new ≡ text.old ++ (with_header self.old (Some header)).text) }
-        ensures place { IfOk result (λ s. (with_header self.old (Some header)).place ≡ place_of s self.new) }
-        ensures stop { IfOk result IsStop }
+        requires room { self.old.reading.lines < 200_000 }
+        requires none { self.old.reading.cluster ≡ None }
+        requires line { header_line header ≡ self.old.reading.part }
+        ensures text { OnOk result (text.new ≡ text.old ++ (with_header self.old.totals self.old.reading (Some header)).text) }
+        ensures place { IfOk result (λ s. (with_header self.old.totals self.old.reading (Some header)).place ≡ place_of s self.new.reading) }
+        ensures stop { IfOk result IsRuleStop }
+        ensures totals { OnOk result (self.new.totals ≡ self.old.totals) }
+        ensures counts { OnOk result (HasCounts self.old → HasCounts self.new) }
     {
         let config = match Config::new(header.nodes, header.pages, header.size, header.frames) {
             Ok(config) => config,
@@ -102,51 +135,76 @@ impl Reader {
                 return Ok(Some(3));
             }
         };
-        if config.nodes() != 1 {
-            return self.stop(b"later", 8, text);
-        }
-        text.echo(self.part.as_slice())?;
-        self.node = Some(Node::open(self.alloc, &config)?);
-        self.lines += 1;
-        self.part.clear();
-        self.commits = 0;
-        Ok(None)
-    }
-
-    /// A further line: an event that the node takes.
-    fn run(&mut self, event: &Event, text: &mut Text) -> Result<Option<u8>, NoMemory>
-        requires room { self.old.lines < 200_000 }
-        requires node { IsSome self.old.single }
-        requires line { line_of event.now ≡ self.old.part }
-        requires empty { text.old ≡ [] }
-        ensures text { OnOk result (text.new ≡ (taken_by self.old self.old.single event.now).text) }
-        ensures place { IfOk result (λ s. (taken_by self.old self.old.single event.now).place ≡ place_of s self.new) }
-        ensures stop { IfOk result IsStop }
-    {
-        text.echo(self.part.as_slice())?;
-        let Some(node) = &mut self.node else {
-            unreachable!();
-        };
-        match node.step(event, text)? {
-            Some(commits) => {
+        text.header(self.totals, self.part.as_slice())?;
+        let cluster = Cluster::open(self.alloc, &config)?;
+        match mem::replace(&mut self.cluster, Some(cluster)) {
+            None => {
                 self.lines += 1;
-                self.commits += commits;
                 self.part.clear();
                 Ok(None)
             }
-            None => {
-                text.clear();
-                self.stop(b"later", 8, text)
+            Some(_) => unreachable!(),
+        }
+    }
+
+    /// A further line: an event, by which the cluster makes a step.
+    fn run(&mut self, event: &Event, text: &mut Text) -> Result<Option<u8>, NoMemory>
+        requires room { self.old.reading.lines < 200_000 }
+        requires cluster { IsSome self.old.reading.cluster }
+        requires has { HasLine event.now }
+        requires line { event_of self.old.reading.part ≡ Some event.now }
+        ensures told { IfOk result (λ s. Tells (line_told self.old self.old.reading.cluster (Some event.now)) self.old text.old text.new s self.new) }
+        ensures stop { IfOk result IsStop }
+    {
+        let Some(cluster) = &mut self.cluster else {
+            unreachable!();
+        };
+        match cluster.step(event) {
+            Ok(()) => self.tell(event, text),
+            Err(ClusterFault::NoMemory) => Err(NoMemory),
+            Err(
+                ClusterFault::Differs {
+                    page: _page,
+                    expected: _expected,
+                    found: _found,
+                },
+            ) => self.stop(b"later", 8, text),
+        }
+    }
+
+    /// Tells the entry that a step has added to the trace.
+    fn tell(&mut self, event: &Event, text: &mut Text) -> Result<Option<u8>, NoMemory>
+        requires room { self.old.reading.lines < 200_000 }
+        requires cluster { IsSome self.old.reading.cluster }
+        requires has { HasLine event.now }
+        ensures last { IfOk result (λ s. TellsLast event.now self.old text.old text.new s self.new) }
+        ensures some { IfOk result (TellsSome text.old text.new) }
+        ensures stop { IfOk result IsStop }
+    {
+        let Some(cluster) = &self.cluster else {
+            unreachable!();
+        };
+        match added(cluster.trace().entries(), event) {
+            Some(entry) => {
+                text.entry(self.totals, entry)?;
+                self.counter.add(entry)?;
+                self.lines += 1;
+                self.part.clear();
+                Ok(None)
             }
+            None => self.stop(b"later", 8, text),
         }
     }
 
     /// The first line, whole or of so many bytes that it is in no grammar.
     fn judge_header(&mut self, text: &mut Text) -> Result<Option<u8>, NoMemory>
-        requires room { self.old.lines < 200_000 }
-        ensures text { OnOk result (text.new ≡ text.old ++ (with_header self.old (header_of self.old.part)).text) }
-        ensures place { IfOk result (λ s. (with_header self.old (header_of self.old.part)).place ≡ place_of s self.new) }
-        ensures stop { IfOk result IsStop }
+        requires room { self.old.reading.lines < 200_000 }
+        requires none { self.old.reading.cluster ≡ None }
+        ensures text { OnOk result (text.new ≡ text.old ++ (with_header self.old.totals self.old.reading (header_of self.old.reading.part)).text) }
+        ensures place { IfOk result (λ s. (with_header self.old.totals self.old.reading (header_of self.old.reading.part)).place ≡ place_of s self.new.reading) }
+        ensures stop { IfOk result IsRuleStop }
+        ensures totals { OnOk result (self.new.totals ≡ self.old.totals) }
+        ensures counts { OnOk result (HasCounts self.old → HasCounts self.new) }
     {
         match read_header(self.part.as_slice()) {
             Ok(header) => self.start(header, text),
@@ -157,11 +215,9 @@ impl Reader {
 
     /// A further line.
     fn judge_event(&mut self, text: &mut Text) -> Result<Option<u8>, NoMemory>
-        requires room { self.old.lines < 200_000 }
-        requires node { IsSome self.old.single }
-        requires empty { text.old ≡ [] }
-        ensures text { OnOk result (text.new ≡ (line_taken self.old self.old.single (event_of self.old.part)).text) }
-        ensures place { IfOk result (λ s. (line_taken self.old self.old.single (event_of self.old.part)).place ≡ place_of s self.new) }
+        requires room { self.old.reading.lines < 200_000 }
+        requires cluster { IsSome self.old.reading.cluster }
+        ensures told { IfOk result (λ s. Tells (line_told self.old self.old.reading.cluster (event_of self.old.reading.part)) self.old text.old text.new s self.new) }
         ensures stop { IfOk result IsStop }
     {
         match read_line(self.alloc, self.part.as_slice()) {
@@ -172,26 +228,22 @@ impl Reader {
     }
 
     /// A whole line, or one of so many bytes that it is in no grammar.
-    #[tactic(auto, unfolding(crate::specs::Due::judged))]
+    #[tactic(auto, unfolding(replay_rules::specs::Due::judged))]
     fn judge(&mut self, text: &mut Text) -> Result<Option<u8>, NoMemory>
-        requires room { self.old.lines < 200_000 }
-        requires empty { text.old ≡ [] }
-        ensures text { OnOk result (text.new ≡ (judged self.old).text) }
-        ensures place { IfOk result (λ s. (judged self.old).place ≡ place_of s self.new) }
+        requires room { self.old.reading.lines < 200_000 }
+        ensures told { IfOk result (λ s. Tells (judged self.old.totals self.old.reading) self.old text.old text.new s self.new) }
         ensures stop { IfOk result IsStop }
     {
-        if self.node.is_none() {
+        if self.cluster.is_none() {
             return self.judge_header(text);
         }
         self.judge_event(text)
     }
 
     /// One byte more. It gives a status where the run is over.
-    #[tactic(auto, unfolding(crate::specs::Due::fed))]
+    #[tactic(auto, unfolding(replay_rules::specs::Due::fed))]
     pub(crate) fn feed(&mut self, byte: u8, text: &mut Text) -> Result<Option<u8>, NoMemory>
-        requires { text.old ≡ [] }
-        ensures text { OnOk result (text.new ≡ (fed_spec self.old byte).text) }
-        ensures place { IfOk result (λ s. (fed_spec self.old byte).place ≡ place_of s self.new) }
+        ensures told { IfOk result (λ s. Feeds (fed_spec self.old.totals self.old.reading byte) self.old byte text.old text.new s self.new) }
         ensures stop { IfOk result IsStop }
     {
         if self.lines == MOST_LINES {
@@ -208,57 +260,21 @@ impl Reader {
     }
 
     /// The end of the input: behind a whole line, or within one. It gives the status of the run.
-    #[tactic(auto, unfolding(crate::specs::Due::at_end))]
+    #[tactic(auto, unfolding(replay_rules::specs::Due::at_end))]
     pub(crate) fn end(&mut self, text: &mut Text) -> Result<u8, NoMemory>
-        requires { text.old ≡ [] }
-        ensures text { OnOk result (text.new ≡ (at_end (Going self.old)).text) }
-        ensures place { IfOk result (λ s. (at_end (Going self.old)).place ≡ Stopped s) }
+        ensures text { OnOk result (HasCounts self.old → text.new ≡ text.old ++ (at_end self.old.totals (Going self.old.reading)).text) }
+        ensures place { IfOk result (λ s. (at_end self.old.totals (Going self.old.reading)).place ≡ Stopped s) }
         ensures judged { IfOk result (λ s. IsTrue (is_judged s)) }
     {
-        if self.node.is_none() {
-            self.cut_header(text)?;
+        if self.cluster.is_none() {
+            cut_header(self.part.as_slice(), self.lines, text)?;
             return Ok(3);
         }
         if self.part.is_empty() {
-            text.end(self.lines.saturating_sub(1), self.commits)?;
+            text.end(self.totals, &self.counter)?;
             return Ok(0);
         }
-        self.cut_event(text)?;
+        cut_event(self.alloc, self.part.as_slice(), self.lines, text)?;
         Ok(3)
-    }
-
-    /// Appends the last line of a run whose first line no newline ends.
-    fn cut_header(&self, text: &mut Text) -> Result<(), NoMemory>
-        ensures { OnOk result (text.new ≡ text.old ++ bad_line self.now.lines (bad_at false header_forms self.now.part)) }
-    {
-        match read_header(self.part.as_slice()) {
-            Ok(_) => self.cut(text),
-            Err(LineFault::BadLine { column, reason }) => match reason {
-                LineReason::Byte => text.bad(self.lines, column, b"byte"),
-                LineReason::Short => self.cut(text),
-            },
-            Err(LineFault::NoMemory) => Err(NoMemory),
-        }
-    }
-
-    /// The same, of a further line.
-    fn cut_event(&self, text: &mut Text) -> Result<(), NoMemory>
-        ensures { OnOk result (text.new ≡ text.old ++ bad_line self.now.lines (bad_at false event_forms self.now.part)) }
-    {
-        match read_line(self.alloc, self.part.as_slice()) {
-            Ok(_event) => self.cut(text),
-            Err(LineFault::BadLine { column, reason }) => match reason {
-                LineReason::Byte => text.bad(self.lines, column, b"byte"),
-                LineReason::Short => self.cut(text),
-            },
-            Err(LineFault::NoMemory) => Err(NoMemory),
-        }
-    }
-
-    /// The column behind the last byte of a line that no newline ends.
-    fn cut(&self, text: &mut Text) -> Result<(), NoMemory>
-        ensures { OnOk result (text.new ≡ text.old ++ bad_text (self.now.lines + 1) (length self.now.part + 1) Cut) }
-    {
-        text.bad(self.lines, self.part.len() + 1, b"cut")
     }
 }

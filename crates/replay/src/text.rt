@@ -1,15 +1,16 @@
-ghost use Rattle.std.specs.Prelude.{◌≡◌, ◌+◌, ◌++◌, [], codes, OnOk};
-ghost use Rattle.text_rules.specs.ScheduleLine.{spaced, bytes_text};
-ghost use Rattle.text_rules.specs.TraceText.{spaced_tx, reply_line, reason_text, echo_text, end_text, ended};
-ghost use Rattle.pcl_base.specs.declared.reply.Reply.TheVariants.{Begun, Committed, Value, Done, Refused};
+ghost use Rattle.std.specs.Prelude.{◌≡◌, ◌+◌, ◌++◌, [], codes, true, OnOk};
+ghost use Rattle.text_rules.specs.ScheduleLine.{HasLine, spaced};
+ghost use Rattle.text_rules.specs.TraceText.{echo_text, ended, entry_text};
 ghost use Rattle.text_rules.specs.BadLine.{bad_header_text};
-ghost use Rattle.replay.specs.Due.{last_line};
-ghost use Rattle.replay.specs.NodeView.{IsMet};
+ghost use Rattle.replay_rules.specs.Due.{in_trace};
+ghost use Rattle.replay.specs.Told.{closing_of};
 
+use crate::counter::Counter;
 use itoa::Buffer;
-use pcl_base::{ConfigFault, NoMemory, Reason, TxId};
+use pcl_base::{ConfigFault, Entry, NoMemory};
 use std::alloc::Global;
 use std::marker::Model;
+use trace_text::{print_end, print_entry};
 
 /// The text of the lines that were read since it was cleared.
 #[derive(Debug, Drop)]
@@ -66,32 +67,8 @@ impl Text {
         self.push(Buffer::new().format(number).as_bytes())
     }
 
-    /// Appends a transaction's name after a space.
-    fn push_tx(&mut self, tx: TxId) -> Result<(), NoMemory>
-        ensures { OnOk result (self.new ≡ self.old ++ spaced_tx tx) }
-    {
-        let mut buffer = Buffer::new();
-        self.push(b" ")?;
-        self.push(buffer.format(tx.node).as_bytes())?;
-        self.push(b".")?;
-        self.push(buffer.format(tx.born).as_bytes())?;
-        self.push(b".")?;
-        self.push(buffer.format(tx.serial).as_bytes())
-    }
-
-    /// Appends bytes as pairs of digits, or `-` for none.
-    fn push_bytes(&mut self, bytes: &[u8]) -> Result<(), NoMemory>
-        ensures { OnOk result (self.new ≡ self.old ++ bytes_text bytes.now) }
-    {
-        if bytes.is_empty() {
-            return self.push(b"-");
-        }
-        let digits = hex::encode(self.alloc, bytes)?;
-        self.push(digits.as_bytes())
-    }
-
     /// Appends a line that was read.
-    pub(crate) fn echo(&mut self, line: &[u8]) -> Result<(), NoMemory>
+    fn echo(&mut self, line: &[u8]) -> Result<(), NoMemory>
         ensures { OnOk result (self.new ≡ self.old ++ echo_text line.now) }
     {
         self.push(b"> ")?;
@@ -99,65 +76,26 @@ impl Text {
         self.push(b"\n")
     }
 
-    /// Appends the line of a transaction that was opened.
-    pub(crate) fn begun(&mut self, tx: TxId) -> Result<(), NoMemory>
-        ensures { OnOk result (self.new ≡ self.old ++ ended (reply_line (Begun tx))) }
+    /// Appends the first line that was read, or nothing where the totals alone are told.
+    pub(crate) fn header(&mut self, totals: bool, line: &[u8]) -> Result<(), NoMemory>
+        ensures { OnOk result (self.new ≡ self.old ++ in_trace totals (echo_text line.now)) }
     {
-        self.push(b"begun")?;
-        self.push_tx(tx)?;
-        self.push(b"\n")
-    }
-
-    /// Appends the line of a transaction that was committed.
-    pub(crate) fn committed(&mut self, tx: TxId) -> Result<(), NoMemory>
-        ensures { OnOk result (self.new ≡ self.old ++ ended (reply_line (Committed tx))) }
-    {
-        self.push(b"committed")?;
-        self.push_tx(tx)?;
-        self.push(b"\n")
-    }
-
-    /// Appends the line of a write that was granted over a page at that version.
-    pub(crate) fn done(&mut self, tx: TxId, page: u32, version: u64) -> Result<(), NoMemory>
-        ensures { OnOk result (self.new ≡ self.old ++ ended (reply_line (Done tx page version))) }
-    {
-        self.push(b"done")?;
-        self.push_tx(tx)?;
-        self.push_number(page as u64)?;
-        self.push_number(version)?;
-        self.push(b"\n")
-    }
-
-    /// Appends the line of a read that was granted: the page's bytes at that version.
-    pub(crate) fn value(
-        &mut self,
-        tx: TxId,
-        page: u32,
-        version: u64,
-        bytes: &[u8],
-    ) -> Result<(), NoMemory>
-        ensures { OnOk result (self.new ≡ self.old ++ ended (reply_line (Value tx page version bytes.now))) }
-    {
-        self.push(b"value")?;
-        self.push_tx(tx)?;
-        self.push_number(page as u64)?;
-        self.push_number(version)?;
-        self.push(b" ")?;
-        self.push_bytes(bytes)?;
-        self.push(b"\n")
-    }
-
-    /// Appends the line of a refusal.
-    pub(crate) fn refused(&mut self, reason: Reason) -> Result<(), NoMemory>
-        requires { IsMet reason }
-        ensures { OnOk result (self.new ≡ self.old ++ ended (reply_line (Refused reason))) }
-    {
-        match reason {
-            Reason::NoTx => self.push(b"refused 4 NoTx\n"),
-            Reason::NoPage => self.push(b"refused 6 NoPage\n"),
-            Reason::BadRange => self.push(b"refused 7 BadRange\n"),
-            _ => unreachable!(),
+        if totals {
+            return Ok(());
         }
+        self.echo(line)
+    }
+
+    /// Appends the text of an entry, or nothing where the totals alone are told.
+    pub(crate) fn entry(&mut self, totals: bool, entry: &Entry) -> Result<(), NoMemory>
+        requires { HasLine entry.now.event }
+        ensures { OnOk result (self.new ≡ self.old ++ in_trace totals (entry_text entry.now)) }
+    {
+        if totals {
+            return Ok(());
+        }
+        let text = print_entry(self.alloc, entry)?;
+        self.push(text.as_slice())
     }
 
     /// Appends the last line of a run that a bad line ends: the number of that line, which is the one
@@ -187,20 +125,29 @@ impl Text {
 
     /// Appends the last line: a word and the number of the line after those that were read.
     pub(crate) fn last(&mut self, word: &[u8], lines: u32) -> Result<(), NoMemory>
-        ensures { OnOk result (self.new ≡ self.old ++ last_line word.now lines) }
+        ensures { OnOk result (self.new ≡ self.old ++ ended (word.now ++ spaced (lines + 1))) }
     {
         self.push(word)?;
         self.push_number(lines as u64 + 1)?;
         self.push(b"\n")
     }
 
-    /// Appends the last line of a whole run.
-    pub(crate) fn end(&mut self, events: u32, commits: u32) -> Result<(), NoMemory>
-        ensures { OnOk result (self.new ≡ self.old ++ end_text events commits) }
+    /// Appends the last line of a whole run, or its totals.
+    pub(crate) fn end(&mut self, totals: bool, counter: &Counter) -> Result<(), NoMemory>
+        ensures { OnOk result (self.new ≡ self.old ++ closing_of totals counter.now) }
     {
-        self.push(b"end")?;
-        self.push_number(events as u64)?;
-        self.push_number(commits as u64)?;
-        self.push(b"\n")
+        if totals {
+            return self.totals(counter);
+        }
+        let text = print_end(self.alloc, counter.events(), counter.commits())?;
+        self.push(text.as_slice())
+    }
+
+    /// Appends the totals.
+    fn totals(&mut self, counter: &Counter) -> Result<(), NoMemory>
+        ensures { OnOk result (self.new ≡ self.old ++ closing_of true counter.now) }
+    {
+        let text = counter.print(self.alloc)?;
+        self.push(text.as_slice())
     }
 }

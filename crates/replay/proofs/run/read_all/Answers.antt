@@ -1,9 +1,12 @@
-use Rattle.std.proofs.Common.{◌≡◌, ◌<◌, [], length, take, sym, subst, ap, ◌∙◌, arith}
+use Rattle.std.proofs.Common.{◌≡◌, ◌<◌, [], length, take, subst, arith}
 use Rattle.std.specs.Io.KnownBytes.{Consumes}
 use Rattle.std.proofs.lemmas.List.{length-take}
-use Rattle.replay.specs.ReaderView.{place_of}
-use Rattle.replay.specs.Wrote.{IsStop, Reached}
-use Rattle.replay.proofs.RanLemmas.{first_reached, out_of_memory, source_failed, finished, piece_failed, piece_stopped, piece_read}
+use Rattle.replay.specs.Told.{IsStop}
+use Rattle.replay.specs.Wrote.{Went}
+use Rattle.replay.proofs.Going.{fault_earlier}
+use Rattle.replay.proofs.Reaching.{first_reached, from_first, piece_read}
+use Rattle.replay.proofs.Outcomes.{out_of_memory, source_failed, piece_failed, piece_stopped}
+use Rattle.replay.proofs.Endings.{finished}
 use Rattle.replay.proofs.run.read_all.Goals as goal
 
 pub loop-init : goal.loop-init
@@ -11,17 +14,15 @@ loop-init g c =
     record {
       empty = c.requires.empty;
       room = c.requires.room;
-      reached =
-          subst (Reached (g.I.Source.left c.args.input.now) (g.I.Source.left c.args.input.now) (g.O.Sink.written c.args.output.now) (g.O.Sink.written c.args.output.now) (g.I.Source.faults c.args.input.now) (g.I.Source.faults c.args.input.now) (g.O.Sink.faults c.args.output.now) (g.O.Sink.faults c.args.output.now))
-          (sym c.requires.first)
-          (first_reached (g.I.Source.left c.args.input.now) (g.O.Sink.written c.args.output.now) (g.I.Source.faults c.args.input.now) (g.O.Sink.faults c.args.output.now));
+      reached = first_reached c.args.reader.now (g.I.Source.left c.args.input.now) (g.O.Sink.written c.args.output.now) (g.I.Source.faults c.args.input.now) (g.O.Sink.faults c.args.output.now);
     }
 
 pub read-requires : goal.read-requires
 read-requires g c = c.loop.invariant.room
 
 pub returns-in-Err : goal.returns-in-Err
-returns-in-Err g c = source_failed _ _ _ _ _ _ _ _ _ _ _ c.loop.invariant.reached c.in-Err.ensures.bytes c.in-Err.ensures.cause.failed
+returns-in-Err g c =
+    source_failed c.args.reader.now.totals c.loop.reader _ _ _ _ _ _ _ _ _ _ (from_first c.args.reader.now.totals c.requires.first c.loop.invariant.reached) c.in-Err.ensures.bytes c.in-Err.ensures.cause.failed
 
 pub finish-requires : goal.finish-requires
 finish-requires g c = c.loop.invariant.empty
@@ -32,7 +33,8 @@ returns-in-Ok-eq0 g c =
     let room : 0 < length c.read.new.out = omega (arith, c.loop.invariant.room, c.read.auto.out) in
     let nothing : Consumes (g.I.Source.left c.loop.input) (g.I.Source.left c.read.new.self) [] =
     subst (λ n. Consumes (g.I.Source.left c.loop.input) (g.I.Source.left c.read.new.self) (take n c.read.new.out)) zero c.in-Ok-eq0.ensures.bytes.0 in
-    finished _ _ _ _ _ _ _ _ _ _ _ _ _ c.finish.result c.loop.invariant.reached nothing (c.in-Ok-eq0.ensures.bytes.1 zero room) c.finish.ensures.wrote c.finish.ensures.place c.finish.ensures.judged
+    finished c.args.reader.now.totals c.loop.reader _ _ _ _ _ _ _ _ _ _ _ _ c.finish.result
+    (from_first c.args.reader.now.totals c.requires.first c.loop.invariant.reached) nothing (c.in-Ok-eq0.ensures.bytes.1 zero room) c.finish.ensures.closes c.finish.ensures.blame c.finish.ensures.place c.finish.ensures.judged
 
 pub slice_bounds-take-end : goal.slice_bounds-take-end
 slice_bounds-take-end g c = c.in-Ok.ensures.most.0
@@ -48,27 +50,29 @@ take-requires g c = c.loop.invariant.empty
 
 pub returns-in-Err-take : goal.returns-in-Err-take
 returns-in-Err-take g c =
-    piece_failed _ _ _ _ _ _ _ _ _ _ _ _ _ (take c.in-Ok.count c.read.new.out) c.in-Err-take.fault c.loop.invariant.reached c.in-Ok.ensures.bytes.0 c.in-Err-take.ensures.wrote.cause c.in-Err-take.ensures.wrote.part
+    let here = c.loop.invariant.reached in
+    piece_failed c.args.reader.now.totals c.loop.reader _ _ _ _ _ _ _ _ _ _ _ _ (take c.in-Ok.count c.read.new.out) c.in-Err-take.fault
+    (from_first c.args.reader.now.totals c.requires.first here) c.in-Ok.ensures.bytes.0
+    (fault_earlier _ _ _ c.in-Err-take.fault here.later_sink c.in-Err-take.ensures.blame.cause) c.in-Err-take.ensures.took
 
 pub returns-in-Ok-Some : goal.returns-in-Ok-Some
 returns-in-Ok-Some g c =
     let status = c.in-Ok-Some.field-0-is in
-    piece_stopped _ _ _ _ _ _ _ _ _ _ _ _ _ (take c.in-Ok.count c.read.new.out) c.in-Ok-Some.status c.loop.invariant.reached c.in-Ok.ensures.bytes.0
-    c.in-Ok-Some.ensures.wrote.whole
-    (c.in-Ok-Some.ensures.place ∙ ap (λ o. place_of o c.take.new.reader) status)
-    (subst IsStop status c.in-Ok-Some.ensures.stop)
+    piece_stopped c.args.reader.now.totals c.loop.reader c.take.new.reader _ _ _ _ _ _ _ _ _ _ _ _ (take c.in-Ok.count c.read.new.out) c.in-Ok-Some.status
+    (from_first c.args.reader.now.totals c.requires.first c.loop.invariant.reached) c.in-Ok.ensures.bytes.0 (subst IsStop status c.in-Ok-Some.ensures.stop)
+    (subst (λ s. Went c.loop.reader (take c.in-Ok.count c.read.new.out) (g.O.Sink.written c.loop.output) (g.O.Sink.written c.take.new.output) s c.take.new.reader) status c.in-Ok-Some.ensures.took)
 
 pub loop-preserved : goal.loop-preserved
 loop-preserved g c =
-    let wrote = c.in-Ok-None.ensures.wrote in
+    let blame = c.in-Ok-None.ensures.blame in
     record {
       empty = c.in-Ok-None.ensures.empty;
       room = omega (arith, c.loop.invariant.room, c.read.auto.out);
       reached =
-          piece_read _ _ _ _ _ _ _ _ _ _ _ _ _ _ (take c.in-Ok.count c.read.new.out) c.loop.invariant.reached c.in-Ok.ensures.bytes.0 c.in-Ok.ensures.cause.later
-          wrote.later wrote.whole
-          (c.in-Ok-None.ensures.place ∙ ap (λ o. place_of o c.take.new.reader) c.in-Ok-None.field-0-is);
+          piece_read c.args.reader.now c.loop.reader c.take.new.reader _ _ _ _ _ _ _ _ _ _ _ _ (take c.in-Ok.count c.read.new.out) c.loop.invariant.reached c.in-Ok.ensures.bytes.0
+          c.in-Ok.ensures.cause.later blame.later
+          (subst (λ s. Went c.loop.reader (take c.in-Ok.count c.read.new.out) (g.O.Sink.written c.loop.output) (g.O.Sink.written c.take.new.output) s c.take.new.reader) c.in-Ok-None.field-0-is c.in-Ok-None.ensures.took);
     }
 
 pub returns : goal.returns
-returns g c = out_of_memory c.loop.invariant.reached
+returns g c = out_of_memory c.args.reader.now.totals c.loop.reader _ _ _ _ _ _ _ _ (from_first c.args.reader.now.totals c.requires.first c.loop.invariant.reached)

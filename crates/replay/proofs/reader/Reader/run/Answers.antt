@@ -1,23 +1,34 @@
-use Rattle.std.proofs.Common.{◌≡◌, ◌++◌, sym, ap, ◌∙◌, Some, is_some}
-use Rattle.text_rules.specs.ScheduleLine.{line_of}
-use Rattle.text_rules.specs.TraceText.{echo_text}
-use Rattle.replay.specs.SingleRun.{step}
-use Rattle.replay.specs.ReaderView.{taken_by}
-use Rattle.replay.specs.NodeView.{text_of, state_of, given}
-use Rattle.replay.proofs.StepLemmas.{plain_step, step_text}
+use Rattle.std.proofs.Common.{◌≡◌, Some, sym, ap, subst}
+use Rattle.std.specs.Prelude.{IfOk}
+use Rattle.std.specs.Option.{option_map}
+use Rattle.text_rules.specs.ReadEvent.{event_of}
+use Rattle.cluster_parts.specs.Ends.{Ends}
+use Rattle.cluster_parts.specs.State.{cluster_of}
+use Rattle.replay.specs.ReaderView.{ReaderView, reader_of}
+use Rattle.replay.specs.Told.{Tells, line_told}
+use Rattle.replay.proofs.Lines.{line_counted}
+use Rattle.replay.proofs.Telling.{made_tells, left_tells}
 use Rattle.replay.proofs.reader.Reader.run.Goals as goal
 
-pub returns-in-Some-2-clause-text : goal.returns-in-Some-2-clause-text
-returns-in-Some-2-clause-text c =
-    let event = c.args.event.now in
-    let node = c.in-Some.node in
-    let single : c.args.self.now.single ≡ Some node = ap (λ r. r.single) (sym c.self.view_is) ∙ c.in-Some.is in
-    let gave : state_of (step node event) ≡ Some c.step.new.self =
-    c.in_ok-commits.ensures.state ∙ ap (λ n. given (is_some n) c.step.new.self) c.in-Some-2.is in
-    let echoed : c.echo.new.self ≡ echo_text (line_of event) =
-    c.in_ok-echo.ensures ∙ ap (λ t. t ++ echo_text c.as_slice.result.now) c.requires.empty
-    ∙ ap echo_text (c.as_slice.ensures.value ∙ ap (λ r. r.part) c.self.view_is ∙ sym c.requires.line) in
-    c.in_ok-commits.ensures.text
-    ∙ ap (λ t. t ++ text_of (step node event)) echoed
-    ∙ step_text c.args.self.now event (step node event) c.step.new.self (plain_step node event) gave
-    ∙ ap (λ o. (taken_by c.args.self.now o event).text) (sym single)
+pub step-requires : goal.step-requires
+step-requires c = line_counted c.args.event.now c.requires.has
+
+pub returns-in-Ok-clause-told : goal.returns-in-Ok-clause-told
+returns-in-Ok-clause-told c =
+    let v : ReaderView = reader_of c.self.inside.totals c.self.inside.lines c.self.inside.part.items c.self.inside.cluster c.self.inside.counter in
+    let e = c.args.event.now in
+    let line : event_of v.reading.part ≡ Some e = subst (λ (x : ReaderView). event_of x.reading.part ≡ Some e) (sym c.self.view_is) c.requires.line in
+    let ends = subst (λ r. Ends (cluster_of c.in-Some.cluster) e r (cluster_of c.step.new.self)) c.in-Ok.is c.step.ensures.ends in
+    subst (λ (x : ReaderView). IfOk c.tell.result (λ s. Tells (line_told x x.reading.cluster (Some e)) x c.args.text.now c.tell.new.text s c.tell.new.self)) c.self.view_is
+    (made_tells {T = Unit {0}} v c.tell.new.self (cluster_of c.in-Some.cluster) (cluster_of c.step.new.self) e tt c.args.text.now c.tell.new.text c.tell.result (ap (option_map cluster_of) c.in-Some.is)
+    line ends c.tell.ensures.last c.tell.ensures.some)
+
+pub returns-in-Err-Differs-clause-told : goal.returns-in-Err-Differs-clause-told
+returns-in-Err-Differs-clause-told c =
+    let v : ReaderView = reader_of c.self.inside.totals c.self.inside.lines c.self.inside.part.items c.self.inside.cluster c.self.inside.counter in
+    let e = c.args.event.now in
+    let line : event_of v.reading.part ≡ Some e = subst (λ (x : ReaderView). event_of x.reading.part ≡ Some e) (sym c.self.view_is) c.requires.line in
+    let ends = subst (λ r. Ends (cluster_of c.in-Some.cluster) e r (cluster_of c.step.new.self)) c.in-Err-Differs.is c.step.ensures.ends in
+    subst (λ (x : ReaderView). IfOk c.stop.result (λ s. Tells (line_told x x.reading.cluster (Some e)) x c.args.text.now c.stop.new.text s c.stop.new.self)) c.self.view_is
+    (left_tells v c.stop.new.self (cluster_of c.in-Some.cluster) (cluster_of c.step.new.self) e c.in-Err-Differs.field-0 _ _ _ c.args.text.now c.stop.new.text c.stop.result
+    (ap (option_map cluster_of) c.in-Some.is) line ends c.in-Err-Differs.field-0-is c.stop.ensures.text)
