@@ -1,5 +1,5 @@
 -- The view after a node's own, for its install.
-use Rattle.std.proofs.Common.{◌≡◌, refl, ap, sym, subst, ◌∙◌, ℕ, ◌+◌, List, [], Option, Some, None, option_map, Result, Ok, Err}
+use Rattle.std.proofs.Common.{◌≡◌, refl, ap, sym, subst, ◌∙◌, ℕ, ◌+◌, List, [], Option, Some, None, Result, Ok, Err}
 use Rattle.std.specs.Prelude.{IfOk, IfSome}
 use Rattle.std.specs.List.{slice_get}
 use Rattle.pcl_base.specs.declared.event.Event.{Event}
@@ -7,15 +7,12 @@ use Rattle.pcl_base.specs.declared.event.Event.TheVariants as event
 use Rattle.pcl_base.specs.declared.reply.Reason.TheVariants as reason
 use Rattle.run_rules.specs.Views.{View}
 use Rattle.node_rules.specs.NodeState.{NodeState}
-use Rattle.node_rules.specs.NodeState as node
 use Rattle.cluster_rules.specs.Clusters.{node_at, view_of_epoch}
 use Rattle.cluster_rules.specs.ClusterStep.{install_next, refuse, step}
 use Rattle.cluster_laws.proofs.Numbered.{views_are_numbered_law}
 use Rattle.cluster_parts.specs.Events.{absent_at}
 use Rattle.cluster_parts.specs.State.{AreParts, ClusterView, cluster_of}
-use Rattle.cluster_parts.specs.Steps.{IsReady}
-use Rattle.cluster_parts.proofs.Named.{IsPresent, all_known, present, present_step}
-use Rattle.cluster.proofs.Answering.{handed_ready}
+use Rattle.cluster_parts.proofs.Named.{IsPresent, present, present_step}
 
 -- the view that was found is the one after the node's own
 abbrev pub IsNextOf : ClusterView → ℕ → Option View → Type 0
@@ -24,21 +21,7 @@ IsNextOf v n next = IfSome (node_at (cluster_of v) n) (λ s. next ≡ view_of_ep
 next_of : (v : ClusterView) (n : ℕ) (next : Option View) → IsNextOf v n next → (is : IsPresent (cluster_of v) n) → next ≡ view_of_epoch v.views (is.state.epoch + 1)
 next_of v n next found is = subst (λ (o : Option NodeState). IfSome o (λ s. next ≡ view_of_epoch v.views (s.epoch + 1))) is.up found
 
--- a node that gets it is ready for its step
-pub install_ready : (v : ClusterView) (e : Event) (n : ℕ) (view : View) → AreParts v → e ≡ event.Install n → absent_at (cluster_of v) n ≡ None → IsNextOf v n (Some view) → IsReady v e n (node.Install view)
-install_ready v e n view i same absent found =
-    let is = present (cluster_of v) n absent in
-    subst (λ (x : Event). IsReady v x n (node.Install view)) (sym same)
-    (handed_ready v (event.Install n) n is.state (node.Install view) i
-    (record {
-      known = all_known (cluster_of v) n [] is refl;
-      acts = refl;
-      up = is.up;
-      event = ap (option_map node.Install) (sym (next_of v n (Some view) found is));
-    })
-    (record { same = refl; back = tt }))
-
--- and where there is none, the event is refused
+-- where there is no next view, the event is refused
 pub no_view_step : (v : ClusterView) (e : Event) (n : ℕ) (next : Option View) → e ≡ event.Install n → absent_at (cluster_of v) n ≡ None → IsNextOf v n next → next ≡ None → refuse e reason.NoView (cluster_of v) ≡ step (cluster_of v) e
 no_view_step v e n next same absent found none =
     let is = present (cluster_of v) n absent in

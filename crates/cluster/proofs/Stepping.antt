@@ -1,5 +1,5 @@
 -- What a step needs of the parts of a cluster, from one part of it to the next.
-use Rattle.std.proofs.Common.{◌≡◌, ap, sym, subst, ◌∙◌, ℕ, ◌<◌, List, [], ◌∷◌, ◌++◌, length, Option, Some, None, Result, Ok, slice_set}
+use Rattle.std.proofs.Common.{◌≡◌, ap, sym, subst, ◌∙◌, ℕ, ◌<◌, List, [], ◌∷◌, ◌++◌, length, Option, Some, None, Ok, slice_set}
 use Rattle.pcl_base.specs.declared.event.Event.{Event}
 use Rattle.pcl_base.specs.declared.message.Message.{Message}
 use Rattle.pcl_base.specs.declared.reply.Reply.TheVariants.{Armed}
@@ -14,42 +14,20 @@ use Rattle.node_rules.specs.NodeStep.{nodestep}
 use Rattle.node_parts.specs.Outputs.{OutputsView}
 use Rattle.trace_entries.specs.Notes.{NotesView, HasMemory}
 use Rattle.cluster_rules.specs.Links.{Links, link_at, put_link, clear_into}
-use Rattle.cluster_rules.specs.Clusters.{Cluster, lose}
+use Rattle.cluster_rules.specs.Clusters.{lose}
 use Rattle.cluster_rules.specs.ClusterStep.{arm}
-use Rattle.cluster_laws.specs.Handed.{IsHanded}
-use Rattle.cluster_laws.specs.Sound.{IsCluster}
 use Rattle.node_laws.proofs.Lists.{set_length}
-use Rattle.cluster_parts.specs.declared.fault.ClusterFault.{ClusterFault}
-use Rattle.cluster_parts.specs.Ends.{Ends}
-use Rattle.cluster_parts.specs.State.{ClusterView, ReadsWell, cluster_of, disk_of, rule_stops}
-use Rattle.cluster_parts.specs.Steps.{HaveRoom, IsPrepared, IsReady, IsStepped, MayGoBack, SparesStay, StaysBeside, before_taking}
+use Rattle.cluster_parts.specs.State.{ClusterView, cluster_of, disk_of, rule_stops}
+use Rattle.cluster_parts.specs.Steps.{HaveRoom, IsPrepared, IsReady, IsStepped, MayGoBack, SparesStay, StaysBeside}
 use Rattle.cluster_parts.proofs.Arms.{Aside, room_was}
 use Rattle.cluster_parts.proofs.Carried.{set_map}
 use Rattle.cluster_parts.proofs.Room.{head_rows, up_below}
 use Rattle.cluster_parts.proofs.Sending.{room_back}
 
--- the node is one of the cluster's, and has links
-pub ready_node : (v : ClusterView) (e : Event) (n : ℕ) (ev : NodeEvent) → IsReady v e n ev → n < length v.nodes
-ready_node v e n ev r = up_below v.nodes n r.state r.handed.up
-
+-- the node has links
 pub ready_links : (v : ClusterView) (e : Event) (n : ℕ) (ev : NodeEvent) → IsReady v e n ev → n < length v.links.links
 ready_links v e n ev r =
     subst (λ (k : ℕ). n < k) (r.cluster.nodes ∙ sym (sym (head_rows n ev v.links.links) ∙ r.cluster.links.rows)) (up_below v.nodes n r.state r.handed.up)
-
--- parts whose cluster is the same are ready too
-pub ready_same : (v w : ClusterView) (e : Event) (n : ℕ) (ev : NodeEvent) → IsReady v e n ev → cluster_of w ≡ cluster_of v → w.trace.config ≡ v.trace.config → w.storage ≡ v.storage → MayGoBack n ev w.links → IsReady w e n ev
-ready_same v w e n ev r is title storage back =
-    record {
-      state = r.state;
-      handed = subst (λ (c : Cluster). IsHanded (before_taking n ev c) e n r.state ev) (sym is) r.handed;
-      cluster = subst (λ (c : Cluster). IsCluster (before_taking n ev c)) (sym is) r.cluster;
-      back = back;
-      title = title ∙ r.title ∙ sym (ap (λ (c : Cluster). c.config) is);
-      reads = subst ReadsWell (sym storage) r.reads;
-    }
-
-pub ends_same : (c d : Cluster) (e : Event) (n : ℕ) (ev : NodeEvent) (r : Result (Unit {0}) ClusterFault) (x : Cluster) → d ≡ c → Ends (before_taking n ev d) e r x → Ends (before_taking n ev c) e r x
-ends_same c d e n ev r x same ends = subst (λ (k : Cluster). Ends (before_taking n ev k) e r x) same ends
 
 -- what a step of the node leaves beside it
 pub beside_links : (v w : ClusterView) (n : ℕ) → StaysBeside n v w → w.links ≡ v.links

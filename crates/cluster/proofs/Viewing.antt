@@ -1,7 +1,6 @@
 -- The views that a cluster makes.
-use Rattle.std.proofs.Common.{◌≡◌, refl, ap, sym, subst, ◌∙◌, ℕ, ◌<◌, ◌+◌, Bool, true, false, List, [], ◌∷◌, ◌++◌, length, map, slice_set, Option, Some, None, Result, Ok, Err}
-use Rattle.std.specs.List.{AllByRecursion, list_any}
-use Rattle.std.proofs.lemmas.List.{length-map}
+use Rattle.std.proofs.Common.{◌≡◌, refl, ap, sym, subst, ◌∙◌, ℕ, ◌+◌, Bool, true, false, List, [], ◌∷◌, ◌++◌, length, map, slice_set, Option, Some, None, Result, Ok, Err}
+use Rattle.std.specs.List.{list_any}
 use Rattle.pcl_base.specs.Limits.{Sizes}
 use Rattle.pcl_base.specs.declared.event.Event.{Event}
 use Rattle.pcl_base.specs.declared.event.Event.TheVariants as event
@@ -72,13 +71,6 @@ pub reopen_refused : (v : ClusterView) (e : Event) (before : View) (rule : ℕ) 
     → refuse e (reason.BadView rule) (cluster_of v) ≡ step (cluster_of v) e
 reopen_refused v e before rule same b is =
     reopen_step (cluster_of v) e (Err rule) same (ap (reopen v.config) (sym b) ∙ broken_rule v.config before rule is)
-
--- the nodes that start are the cluster's
-pub starts_low : (v : ClusterView) (ns : List ℕ) → AreParts v → AllByRecursion (λ n. n < v.config.nodes) ns → AllByRecursion (λ n. n < length v.nodes) ns
-starts_low v ns i low = subst (λ (k : ℕ). AllByRecursion (λ n. n < k) ns) (sym i.cluster.nodes) low
-
-pub starts_long : (k : Sizes) (epoch : ℕ) (ns : List ℕ) (ss : List (Option NodeState)) → ss ≡ map (λ n. Some (start_node k n epoch)) ns → length ss ≡ length ns
-starts_long k epoch ns ss is = ap length is ∙ length-map ns (λ n. Some (start_node k n epoch))
 
 -- nodes that start leave as many places
 with_length : (nodes : List (Option NodeState)) (ns : List ℕ) (ss : List (Option NodeState)) → length (with_started nodes ns ss) ≡ length nodes

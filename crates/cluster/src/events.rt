@@ -5,7 +5,7 @@ ghost use Rattle.cluster_rules.specs.Clusters.{answer, lose};
 ghost use Rattle.cluster_rules.specs.ClusterStep.{arm};
 ghost use Rattle.node_parts.specs.Events.{event_of};
 ghost use Rattle.cluster_parts.specs.Ends.{ComesTo, Ends};
-ghost use Rattle.cluster_parts.specs.Events.{IsPlain, absent_at};
+ghost use Rattle.cluster_parts.specs.Events.{IsPlain};
 ghost use Rattle.cluster_parts.specs.State.{AreParts, cluster_of};
 
 use crate::parts::ClusterParts;
