@@ -1,0 +1,4 @@
+pub mod Working
+pub mod Coming
+pub mod Opened
+pub mod Counting
