@@ -1,5 +1,5 @@
 -- A frame to a node asks for steps that can come to it.
-use Rattle.std.proofs.Common.{◌≡◌, refl, sym, ap, subst, ◌∙◌, ℕ, Bool, true, false, nat_lt, length, Option, Some, None}
+use Rattle.std.proofs.Common.{◌≡◌, sym, subst, ◌∙◌, ℕ, Bool, true, false, nat_lt, length, Some, None}
 use Rattle.pcl_base.specs.declared.event.Event.{Event}
 use Rattle.pcl_base.specs.declared.event.Event.TheVariants as line
 use Rattle.run_rules.specs.Views.{is_live}

@@ -1,5 +1,6 @@
 -- A storage in memory has its sizes when it is opened.
-use Rattle.std.proofs.Common.{◌≡◌, ◌∙◌, sym, subst, ap, ℕ, zero, suc, ◌+◌, ◌<◌, ◌≤◌, List, replicate, length, map, get_or, Some, arith}
+use Rattle.std.proofs.Common.{◌≡◌, ◌∙◌, sym, subst, ℕ, zero, suc, ◌+◌, ◌<◌, List, replicate, length, get_or, Some, Result, Ok, Err, arith}
+use Rattle.std.specs.Prelude.{IfOk}
 use Rattle.std.proofs.lemmas.List.{length-replicate, length-map}
 use Rattle.pcl_base.specs.Limits.{Sizes}
 use Rattle.disk_model.specs.Disk.{HasSizes}
@@ -19,5 +20,9 @@ opened_fits c =
       rooms_told = length-map (replicate c.nodes no_log) (λ (l : LogDisk). l.room) ∙ length-replicate c.nodes no_log;
     }
 
-pub opened_has : (c : Sizes) (d : Disk) → d ≡ opened c → HasSizes c (Some d.pages) (Some (bytes_in d.logs)) (Some (rooms_in d.logs))
+opened_has : (c : Sizes) (d : Disk) → d ≡ opened c → HasSizes c (Some d.pages) (Some (bytes_in d.logs)) (Some (rooms_in d.logs))
 opened_has c d is = subst (λ (x : Disk). HasSizes c (Some x.pages) (Some (bytes_in x.logs)) (Some (rooms_in x.logs))) (sym is) (opened_fits c)
+
+pub opened_if : {E : Type 0} (c : Sizes) (r : Result Disk E) → IfOk r (λ d. d ≡ opened c) → IfOk r (λ d. HasSizes c (Some d.pages) (Some (bytes_in d.logs)) (Some (rooms_in d.logs)))
+opened_if c (Ok d) is = opened_has c d is
+opened_if c (Err e) is = tt

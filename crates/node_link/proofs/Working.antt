@@ -1,6 +1,6 @@
 -- What a step of the node comes to, in the words of serving.
-use Rattle.std.proofs.Common.{◌≡◌, refl, sym, ap, subst, ◌∙◌, ◌⊎◌, inl, inr, ℕ, Bool, true, false, List, [], ◌∷◌, ◌++◌, append-nil, take, length, slice_set, Option, Some, None, option_map, Result, Ok, Err}
-use Rattle.std.specs.Prelude.{IsSome, IfErr, OnOk, slice_index_or}
+use Rattle.std.proofs.Common.{◌≡◌, refl, sym, ap, subst, ◌∙◌, ◌⊎◌, inl, inr, ℕ, true, false, List, [], ◌∷◌, ◌++◌, append-nil, take, length, slice_set, Option, Some, None, option_map, Result, Ok, Err}
+use Rattle.std.specs.Prelude.{IsSome, IfErr, OnOk}
 use Rattle.pcl_base.specs.declared.reply.Reply.{Reply}
 use Rattle.pcl_base.specs.declared.reply.Reply.TheVariants.{Refused}
 use Rattle.pcl_base.specs.declared.reply.Reason.TheVariants.{NoNode}
@@ -10,7 +10,7 @@ use Rattle.pcl_base.specs.declared.tx.TxId.{TxId}
 use Rattle.run_rules.specs.Disk.{Disk}
 use Rattle.disk_model.specs.declared.stop.Stop.{Stop}
 use Rattle.node_rules.specs.DiskCalls.{DiskCall, Left, all_done}
-use Rattle.node_rules.specs.NodeState.{NodeState, NodeEvent, Outgoing, number_of}
+use Rattle.node_rules.specs.NodeState.{NodeState, NodeEvent, number_of}
 use Rattle.node_rules.specs.NodeStep.{Plan, nodestep}
 use Rattle.node_rules.specs.Work.{Outcome, Goes, Differs as differs}
 use Rattle.cluster_rules.specs.ClusterStep.{left_of}
@@ -25,13 +25,13 @@ use Rattle.page_owner.specs.Carry.{halted_by}
 use Rattle.step_ends.specs.Ran.{Stand, Ran, RanPlan, armed_at, stops_after}
 use Rattle.step_ends.proofs.Armed.{put_same}
 use Rattle.frame_rules.specs.WrittenFrames.{step_frames, halted_text, differs_text}
-use Rattle.frame_rules.specs.Serving.{Going, Ended, Served, ends, by_plan, by_step}
+use Rattle.frame_rules.specs.Serving.{Going, Served, ends, by_plan, by_step}
 use Rattle.frame_rules.specs.Halting.{Halts, MayPlan}
 use Rattle.node_core.specs.Came.{BreaksOff, FailsAt, Breaks, Came}
 use Rattle.node_core.specs.Steps.{stand}
-use Rattle.serving_parts.specs.Sides.{Store, Tells, NoneIsToFail}
+use Rattle.serving_parts.specs.Sides.{Store, Tells}
 use Rattle.serving_parts.specs.Outcome.{Alike, status_in}
-use Rattle.serving_parts.specs.Works.{GoesOn, EndsBy}
+use Rattle.serving_parts.specs.Works.{EndsBy}
 use Rattle.serving_parts.specs.Worked.{Worked}
 
 -- what changing calls change of what a storage tells

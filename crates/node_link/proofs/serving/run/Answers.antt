@@ -1,7 +1,7 @@
-use Rattle.std.proofs.Common.{◌≡◌, ◌+◌, ◌-◌, ◌≤◌, zero, suc, refl, sym, ap, subst, ◌∙◌, arith}
+use Rattle.std.proofs.Common.{◌+◌, ◌-◌, zero, sym, subst, ◌∙◌, arith}
 use Rattle.serving_parts.specs.Sides.{store_of, outs_of, sides_of}
 use Rattle.serving_parts.specs.Outcome.{Link}
-use Rattle.serving_parts.specs.Turns.{Moves, Ran, Turned}
+use Rattle.serving_parts.specs.Turns.{Moves, Ran}
 use Rattle.serving_parts.proofs.Moving.{moves_none, moves_then, ran_then}
 use Rattle.serving_parts.proofs.Turning.{one_less}
 use Rattle.node_link.proofs.Counting.{minus_zero, all_done}

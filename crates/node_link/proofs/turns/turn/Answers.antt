@@ -1,4 +1,4 @@
-use Rattle.std.proofs.Common.{◌≡◌, sym, subst}
+use Rattle.std.proofs.Common.{sym, subst}
 use Rattle.disk_model.specs.Disk.{HasSizes}
 use Rattle.frame_rules.specs.ReadFrame.{bad_frame}
 use Rattle.frame_rules.specs.WrittenFrames.{end_frame, bad_frame_text}
