@@ -19,7 +19,7 @@ const PIECE: usize = 65_536;
 /// Runs the schedule that the source gives in a cluster of its own, writes its trace to the sink, or where
 /// `totals` is true its totals alone, and answers the status.
 ///
-/// The statuses are those of docs/rules.md: 0 at the end of the input; 3 at a line outside its grammar; 4
+/// The statuses are those of README.md: 0 at the end of the input; 3 at a line outside its grammar; 4
 /// and 5 where the source or the sink failed; 7 at a byte of line 200,001; 9 for want of memory. 8 comes only
 /// at an event in whose step, or in one before it, a page differs that the rules read; no law excludes that
 /// yet.
