@@ -1,3 +1,4 @@
 pub mod Words
 pub mod MakeWords
+pub mod NodeWords
 pub mod MakeText

@@ -1,6 +1,5 @@
 -- The words that ask for a generated schedule.
-use Rattle.std.specs.Prelude.{ℕ, ◌==◌, ◌&&◌, Bool, nat_le, List, [], length, slice_index_or, codes, ◌||◌, is_some, Option, Some}
-use Rattle.pcl_cli.specs.Words.{totals_of}
+use Rattle.std.specs.Prelude.{ℕ, ◌+◌, ◌==◌, ◌&&◌, Bool, nat_le, List, [], length, slice_index_or, codes, Option, Some}
 use Rattle.std.specs.List.{list_all}
 use Rattle.std.specs.Char.{is_ascii_digit}
 use Rattle.std.specs.Cmp.Lexicographic.{pointwise}
@@ -31,16 +30,21 @@ word_at words place = slice_index_or words place []
 abbrev pub is_make : List (List ℕ) → Bool
 is_make words = length words == 7 && pointwise ◌==◌ (word_at words 0) (codes "make")
 
+-- the configuration that the four words from a place on write
+abbrev pub sizes_at : List (List ℕ) → ℕ → Option Sizes
+sizes_at words place = do
+  nodes ← number_of_word 0 65536 (word_at words place)
+  pages ← number_of_word 0 65536 (word_at words (place + 1))
+  size ← number_of_word 0 65536 (word_at words (place + 2))
+  frames ← number_of_word 0 65536 (word_at words (place + 3))
+  value_of (config_of nodes pages size frames)
+
 -- the numbers behind the word `make`: the last four are a configuration
 abbrev pub numbers_of : List (List ℕ) → Option Job
 numbers_of words = do
   seed ← number_of_word 0 65535 (word_at words 1)
   lines ← number_of_word 1 199999 (word_at words 2)
-  nodes ← number_of_word 0 65536 (word_at words 3)
-  pages ← number_of_word 0 65536 (word_at words 4)
-  size ← number_of_word 0 65536 (word_at words 5)
-  frames ← number_of_word 0 65536 (word_at words 6)
-  sizes ← value_of (config_of nodes pages size frames)
+  sizes ← sizes_at words 3
   Some (record { sizes = sizes; seed = seed; lines = lines })
 
 -- the schedule that the words ask for, where they are this form
@@ -48,7 +52,3 @@ abbrev pub job_of : List (List ℕ) → Option Job
 job_of words = do
   form ← where_true (is_make words) words
   numbers_of form
-
--- whether the words are a form
-abbrev pub is_form : List (List ℕ) → Bool
-is_form words = is_some (totals_of words) || is_some (job_of words)

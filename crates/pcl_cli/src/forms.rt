@@ -1,12 +1,13 @@
-ghost use Rattle.std.specs.Prelude.{◌≡◌, ◌<◌, ◌==◌, ◌&&◌, nat_le, map, length, string_bytes};
+ghost use Rattle.std.specs.Prelude.{◌≡◌, ◌<◌, ◌+◌, ◌==◌, IfSome, ◌&&◌, nat_le, map, length, string_bytes};
 ghost use Rattle.std.specs.Cmp.Lexicographic.{pointwise};
 ghost use Rattle.std.specs.Option.{option_map};
 ghost use Rattle.std.specs.List.{list_all};
 ghost use Rattle.std.specs.Char.{is_ascii_digit};
 ghost use Rattle.text_rules.specs.ReadLine.{where_true, is_numeral as is_numeral_spec};
-ghost use Rattle.pcl_cli.specs.MakeWords.{word_at, number_of_word, is_plain as is_plain_spec, is_make as is_make_spec, job_of as job_spec, numbers_of as numbers_spec};
+ghost use Rattle.pcl_cli.specs.MakeWords.{word_at, number_of_word, is_plain as is_plain_spec, is_make as is_make_spec, job_of as job_spec, numbers_of as numbers_spec, sizes_at as sizes_spec};
+ghost use Rattle.pcl_cli.specs.NodeWords.{is_node as is_node_spec, node_job_of as node_job_spec, node_numbers_of as node_numbers_spec};
 
-use pcl_base::Config;
+use pcl_base::{Config, NodeNo};
 
 /// A schedule that is asked for.
 #[derive(Clone, Copy)]
@@ -15,6 +16,14 @@ pub(crate) struct Job {
     pub seed: u32,
     /// The lines behind the header.
     pub lines: u32,
+}
+
+/// A node that is asked for.
+#[derive(Clone, Copy)]
+pub(crate) struct NodeJob {
+    pub config: Config,
+    /// The number of the node, below N.
+    pub me: NodeNo,
 }
 
 /// The schedule that the words `make SEED LINES NODES PAGES SIZE FRAMES` ask for. None where the
@@ -50,16 +59,60 @@ fn numbers_of(words: &Vec<String>) -> Option<Job>
 {
     let seed = number_at(words, 1, 0, 65_535)?;
     let lines = number_at(words, 2, 1, 199_999)?;
-    let nodes = number_at(words, 3, 0, 65_536)?;
-    let pages = number_at(words, 4, 0, 65_536)?;
-    let size = number_at(words, 5, 0, 65_536)?;
-    let frames = number_at(words, 6, 0, 65_536)?;
-    let config = Config::new(nodes, pages, size, frames).ok()?;
+    let config = sizes_at(words, 3)?;
     Some(Job {
         config,
         seed,
         lines,
     })
+}
+
+/// The node that the words `node NODE NODES PAGES SIZE FRAMES` ask for. None where the words are not
+/// of this form, or a number is out of its limits.
+pub(crate) fn node_job_of(words: &Vec<String>) -> Option<NodeJob>
+    ensures job { option_map (λ j. record { me = j.me; sizes = j.config }) result ≡ node_job_spec (map (λ w. string_bytes w) words.now.items) }
+    ensures me { IfSome result (λ j. j.me < j.config.nodes) }
+{
+    if is_node(words) {
+        return node_numbers_of(words);
+    }
+    None
+}
+
+/// Whether the words are six and the first of them is `node`.
+fn is_node(words: &Vec<String>) -> bool
+    ensures { result ≡ is_node_spec (map (λ w. string_bytes w) words.now.items) }
+{
+    words.len() == 6 && is_word(words, 0, b"node")
+}
+
+/// The numbers behind the word `node`.
+fn node_numbers_of(words: &Vec<String>) -> Option<NodeJob>
+    requires { length words.now.items ≡ 6 }
+    ensures job { option_map (λ j. record { me = j.me; sizes = j.config }) result ≡ node_numbers_spec (map (λ w. string_bytes w) words.now.items) }
+    ensures me { IfSome result (λ j. j.me < j.config.nodes) }
+{
+    let node = number_at(words, 1, 0, 15)?;
+    let config = sizes_at(words, 2)?;
+    if node < config.nodes() {
+        return Some(NodeJob {
+            config,
+            me: node as u8,
+        });
+    }
+    None
+}
+
+/// The configuration that the four words from a place on write.
+fn sizes_at(words: &Vec<String>, place: usize) -> Option<Config>
+    requires { place + 3 < length words.now.items }
+    ensures { result ≡ sizes_spec (map (λ w. string_bytes w) words.now.items) place }
+{
+    let nodes = number_at(words, place, 0, 65_536)?;
+    let pages = number_at(words, place + 1, 0, 65_536)?;
+    let size = number_at(words, place + 2, 0, 65_536)?;
+    let frames = number_at(words, place + 3, 0, 65_536)?;
+    Config::new(nodes, pages, size, frames).ok()
 }
 
 /// The number that the word at a place writes, within two limits.

@@ -1,4 +1,5 @@
-//! The program: `run` over standard input and standard output.
+//! The program: `run` over standard input, standard output, and a store in the folder `pcl-data` of
+//! the working folder, which is made by the first call of the store.
 #![tactic(auto)]
 
 mod forms;
@@ -9,13 +10,17 @@ mod std_source;
 mod tests;
 mod words;
 
+use file_store::FileStore;
 use std::process::ExitCode;
 use std::{env, io};
 use std_sink::StdSink;
 use std_source::StdSource;
 use words::run;
 
-/// Want of memory for the words.
+/// The folder of the store.
+const FOLDER: &str = "pcl-data";
+
+/// Want of memory for the words or for the store.
 const NO_MEMORY: u8 = 9;
 
 /// The words can't be read.
@@ -39,7 +44,10 @@ fn main(rt: HostRuntime) -> ExitCode {
             });
         }
     }
+    let Ok(mut storage) = FileStore::open(rt.alloc(), &rt, FOLDER) else {
+        return ExitCode::from(NO_MEMORY);
+    };
     let mut input = StdSource::new(&rt);
     let mut output = StdSink::new(&rt);
-    ExitCode::from(run(rt.alloc(), &words, &mut input, &mut output))
+    ExitCode::from(run(rt.alloc(), &words, &mut input, &mut output, &mut storage))
 }

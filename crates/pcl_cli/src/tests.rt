@@ -1,9 +1,11 @@
 ghost use Rattle.std.specs.Prelude.{◌≤◌};
 
 use crate::words::run;
+use file_store::FileStore;
 use pcl_base::{MemSink, MemSource};
-use std::alloc::Global;
+use std::rt::HostRuntime;
 use std::test::Fail;
+use std::{env, fs, process};
 
 const PLAIN_PATH: &[u8] =
     b"pcl 1 1 1 8 4\nbegin 0\nwrite 0.1.1 0 2 beef\nread 0.1.1 0\ncommit 0.1.1\nbegin 0\nread 0.1.2 0\ncommit 0.1.2\n";
@@ -14,10 +16,41 @@ const TEXT: &[u8] =
 const TOTALS: &[u8] =
     b"events 7\nbegun 2\nvalues 2\ndone 1\nwaits 0\ncommitted 2\naborted 0\nheld 0\ndropped 0\nrefused 0\nhalted 0\nrequests 0\ngrants 0\nreleases 0\nrevokes 0\nreturns 0\nreports 0\nimages 0\n";
 
-/// The status and the text that a word gives of the plain path in pieces of so many bytes, where the
-/// calls of these numbers fail; a call of number 0 never comes.
+/// The folder of a store that is never used.
+const UNUSED: &str = "pcl-unused";
+
+/// The status and the text of some words over an input, in pieces of so many bytes, where the calls of
+/// these numbers fail; a call of number 0 never comes. The store is in this folder.
+fn ran(
+    rt: HostRuntime,
+    words: &[&str],
+    folder: &str,
+    input: &[u8],
+    piece: usize,
+    failing_read: u64,
+    failing_write: u64,
+) -> Result<(u8, Vec<u8>), Fail>
+    requires { 1 ≤ piece }
+{
+    let alloc = rt.alloc();
+    let mut given = Vec::new(alloc);
+    for word in words {
+        given.push(String::from_str(alloc, word)?)?;
+    }
+    let mut source = MemSource::new(
+        Vec::from_slice(alloc, input)?,
+        piece,
+        vec![in alloc; failing_read]?,
+    );
+    let mut sink = MemSink::open(alloc, 1_000_000, piece, vec![in alloc; failing_write]?)?;
+    let mut store = FileStore::open(alloc, rt, folder)?;
+    let status = run(alloc, &given, &mut source, &mut sink, &mut store);
+    Ok((status, Vec::from_slice(alloc, sink.bytes())?))
+}
+
+/// The status and the text that a word gives of the plain path.
 fn told(
-    alloc: Global,
+    rt: HostRuntime,
     word: &str,
     piece: usize,
     failing_read: u64,
@@ -25,32 +58,32 @@ fn told(
 ) -> Result<(u8, Vec<u8>), Fail>
     requires { 1 ≤ piece }
 {
-    let words = vec![in alloc; String::from_str(alloc, word)?]?;
-    let mut input = MemSource::new(
-        Vec::from_slice(alloc, PLAIN_PATH)?,
+    ran(
+        rt,
+        &[word],
+        UNUSED,
+        PLAIN_PATH,
         piece,
-        vec![in alloc; failing_read]?,
-    );
-    let mut output = MemSink::open(alloc, 1_000, piece, vec![in alloc; failing_write]?)?;
-    let status = run(alloc, &words, &mut input, &mut output);
-    Ok((status, Vec::from_slice(alloc, output.bytes())?))
+        failing_read,
+        failing_write,
+    )
 }
 
 /// The same of the word `replay`.
 fn replayed(
-    alloc: Global,
+    rt: HostRuntime,
     piece: usize,
     failing_read: u64,
     failing_write: u64,
 ) -> Result<(u8, Vec<u8>), Fail>
     requires { 1 ≤ piece }
 {
-    told(alloc, "replay", piece, failing_read, failing_write)
+    told(rt, "replay", piece, failing_read, failing_write)
 }
 
 #[test]
 fn totals_of_the_plain_path(rt: HostRuntime) -> Result<(), Fail> {
-    let (status, text) = told(rt.alloc(), "summary", 7, 0, 0)?;
+    let (status, text) = told(rt, "summary", 7, 0, 0)?;
     assert_eq!(rt; status, 0);
     assert_eq!(rt; text.as_slice(), TOTALS);
     Ok(())
@@ -59,7 +92,7 @@ fn totals_of_the_plain_path(rt: HostRuntime) -> Result<(), Fail> {
 #[test]
 fn plain_path_in_pieces(rt: HostRuntime) -> Result<(), Fail> {
     for piece in [1, 7, 1_000] {
-        let (status, text) = replayed(rt.alloc(), piece, 0, 0)?;
+        let (status, text) = replayed(rt, piece, 0, 0)?;
         assert_eq!(rt; status, 0);
         assert_eq!(rt; text.as_slice(), TEXT);
     }
@@ -70,7 +103,7 @@ fn plain_path_in_pieces(rt: HostRuntime) -> Result<(), Fail> {
 fn source_fails_at_each_call(rt: HostRuntime) -> Result<(), Fail> {
     for (piece, calls) in [(7, 16), (1_000, 2)] {
         for call in 1..calls + 1 {
-            let (status, text) = replayed(rt.alloc(), piece, call, 0)?;
+            let (status, text) = replayed(rt, piece, call, 0)?;
             assert_eq!(rt; status, 4);
             assert!(rt; TEXT.starts_with(text.as_slice()));
         }
@@ -82,7 +115,7 @@ fn source_fails_at_each_call(rt: HostRuntime) -> Result<(), Fail> {
 fn sink_fails_at_each_call(rt: HostRuntime) -> Result<(), Fail> {
     for (piece, calls) in [(7, 43), (1_000, 9)] {
         for call in 1..calls + 1 {
-            let (status, text) = replayed(rt.alloc(), piece, 0, call)?;
+            let (status, text) = replayed(rt, piece, 0, call)?;
             assert_eq!(rt; status, 5);
             assert!(rt; TEXT.starts_with(text.as_slice()));
         }
@@ -95,31 +128,19 @@ const FOUR_LINES: &[u8] = b"pcl 1 2 4 8 4\nbegin 1\nbegin 1\nread 1.1.1 1\nwrite
 /// The status and the text of some words without input, where the sink takes so many bytes a call
 /// and the call of this number fails.
 fn made(
-    alloc: Global,
+    rt: HostRuntime,
     words: &[&str],
     piece: usize,
     failing_write: u64,
 ) -> Result<(u8, Vec<u8>), Fail>
     requires { 1 ≤ piece }
 {
-    let mut given = Vec::new(alloc);
-    for word in words {
-        given.push(String::from_str(alloc, word)?)?;
-    }
-    let mut input = MemSource::new(Vec::new(alloc), 1, Vec::new(alloc));
-    let mut output = MemSink::open(alloc, 1_000_000, piece, vec![in alloc; failing_write]?)?;
-    let status = run(alloc, &given, &mut input, &mut output);
-    Ok((status, Vec::from_slice(alloc, output.bytes())?))
+    ran(rt, words, UNUSED, b"", piece, 0, failing_write)
 }
 
 #[test]
 fn generated_schedule(rt: HostRuntime) -> Result<(), Fail> {
-    let (status, text) = made(
-        rt.alloc(),
-        &["make", "1", "4", "2", "4", "8", "4"],
-        1_000_000,
-        0,
-    )?;
+    let (status, text) = made(rt, &["make", "1", "4", "2", "4", "8", "4"], 1_000_000, 0)?;
     assert_eq!(rt; status, 0);
     assert_eq!(rt; text.as_slice(), FOUR_LINES);
     Ok(())
@@ -128,7 +149,7 @@ fn generated_schedule(rt: HostRuntime) -> Result<(), Fail> {
 #[test]
 fn sink_fails_while_a_schedule_is_made(rt: HostRuntime) -> Result<(), Fail> {
     for call in 1..10 {
-        let (status, text) = made(rt.alloc(), &["make", "1", "4", "2", "4", "8", "4"], 7, call)?;
+        let (status, text) = made(rt, &["make", "1", "4", "2", "4", "8", "4"], 7, call)?;
         assert_eq!(rt; status, 5);
         assert!(rt; FOUR_LINES.starts_with(text.as_slice()));
     }
@@ -136,9 +157,9 @@ fn sink_fails_while_a_schedule_is_made(rt: HostRuntime) -> Result<(), Fail> {
 }
 
 /// The number of lines and of crashes of a schedule of these words, made twice.
-fn lines_and_crashes(alloc: Global, words: &[&str]) -> Result<(usize, usize), Fail> {
-    let (_, text) = made(alloc, words, 65_536, 0)?;
-    let (_, again) = made(alloc, words, 65_536, 0)?;
+fn lines_and_crashes(rt: HostRuntime, words: &[&str]) -> Result<(usize, usize), Fail> {
+    let (_, text) = made(rt, words, 65_536, 0)?;
+    let (_, again) = made(rt, words, 65_536, 0)?;
     if text != again {
         return Err("another text".into());
     }
@@ -152,17 +173,14 @@ fn lines_and_crashes(alloc: Global, words: &[&str]) -> Result<(usize, usize), Fa
 
 #[test]
 fn realistic_run(rt: HostRuntime) -> Result<(), Fail> {
-    let found = lines_and_crashes(rt.alloc(), &["make", "7", "5000", "4", "1000", "512", "64"])?;
+    let found = lines_and_crashes(rt, &["make", "7", "5000", "4", "1000", "512", "64"])?;
     assert_eq!(rt; found, (5_001, 2));
     Ok(())
 }
 
 #[test]
 fn long_generated_run(rt: HostRuntime) -> Result<(), Fail> {
-    let (lines, _) = lines_and_crashes(
-        rt.alloc(),
-        &["make", "3", "20000", "8", "1000", "512", "64"],
-    )?;
+    let (lines, _) = lines_and_crashes(rt, &["make", "3", "20000", "8", "1000", "512", "64"])?;
     assert_eq!(rt; lines, 20_001);
     Ok(())
 }
@@ -186,11 +204,33 @@ fn words_that_make_nothing(rt: HostRuntime) -> Result<(), Fail> {
         ["Make", "1", "4", "2", "4", "8", "4"],
     ];
     for words in table {
-        let (status, text) = made(rt.alloc(), words.as_slice(), 1_000_000, 0)?;
+        let (status, text) = made(rt, words.as_slice(), 1_000_000, 0)?;
         assert_eq!(rt; status, 2);
         assert!(rt; text.starts_with(b"usage: "));
     }
-    let (status, _) = made(rt.alloc(), &["make", "1", "4", "2", "4", "8"], 1_000_000, 0)?;
+    let (status, _) = made(rt, &["make", "1", "4", "2", "4", "8"], 1_000_000, 0)?;
     assert_eq!(rt; status, 2);
+    Ok(())
+}
+
+/// Frames of view 1 of one node, and of a transaction that writes a page and commits.
+const FRAMES: &[u8] =
+    b"\0\0\0\x0fV\0\0\0\x01\x01\0\0\0\0\x01\0\0\0\x01\0\0\0\x08Lbegin 0\0\0\0\x13Lwrite 0.1.1 0 0 01\0\0\0\x0dLcommit 0.1.1";
+
+const ANSWERS: &[u8] =
+    b"\0\0\0\x17Rinstalled 1\nserving 0\n\0\0\0\x0dRbegun 0.1.1\n\0\0\0\x10Rdone 0.1.1 0 0\n\0\0\0\x11Rcommitted 0.1.1\n";
+
+#[test]
+fn a_node_over_a_folder(rt: HostRuntime) -> Result<(), Fail> {
+    let parent = env::temp_dir(&rt)?;
+    let id = process::id(rt.process());
+    let folder = format!(in rt.alloc(); "{}/pcl-node-{id}", parent.display())?;
+    let words = ["node", "0", "1", "1", "8", "2"];
+    let (status, text) = ran(rt, words.as_slice(), folder.as_str(), FRAMES, 5, 0, 0)?;
+    assert_eq!(rt; status, 0);
+    assert_eq!(rt; text.as_slice(), ANSWERS);
+    let log = format!(in rt.alloc(); "{folder}/log0")?;
+    assert!(rt; 0 < fs::metadata(&rt, log.as_str())?.len());
+    fs::remove_dir_all(&rt, folder.as_str())?;
     Ok(())
 }
