@@ -1,51 +1,27 @@
 -- The views that nodes have seen, by the kinds of steps.
-use Rattle.std.proofs.Common.{◌≡◌, ◌⊎◌, inl, inr, refl, ap, sym, subst, ◌∙◌, ℕ, ◌+◌, ◌<◌, ◌==◌, ◌&&◌, ◌||◌, not, nat_lt, Bool, true, false, List, [], ◌∷◌, ◌++◌, length, slice_index_or, slice_set, Option, Some, None, eqb-true, arith}
-use Rattle.std.specs.Prelude.{IfSome}
-use Rattle.std.specs.List.{list_any, list_all, fold}
-use Rattle.std.proofs.lemmas.Bool.Decides.{nat_tests}
-use Rattle.pcl_base.specs.Limits.{Sizes}
+use Rattle.std.proofs.Common.{◌≡◌, refl, subst, ℕ, Bool, false, List, [], ◌∷◌, ◌++◌, slice_index_or, slice_set, Some, None}
 use Rattle.pcl_base.specs.declared.event.Event.{Event}
 use Rattle.pcl_base.specs.declared.event.Event.TheVariants as event
-use Rattle.pcl_base.specs.declared.reply.Reason.{Reason}
 use Rattle.pcl_base.specs.declared.reply.Reply.{Reply}
 use Rattle.pcl_base.specs.declared.reply.Reply.TheVariants as reply
 use Rattle.pcl_base.specs.declared.trace.Entry.{Entry}
-use Rattle.run_rules.specs.Account.{heard, after_entry}
-use Rattle.run_rules.specs.Causes.{is_install}
-use Rattle.run_rules.specs.Ledger as ledger
-use Rattle.run_rules.specs.Ledger.{Ledger, view_at, installed_at, actor}
-use Rattle.run_rules.specs.Taking.{taken_of, without_head, made_view, own_write, hear, install_epoch}
-use Rattle.run_rules.specs.Views.{View, first, owner_of, since_of, born_of, count_from}
-use Rattle.node_rules.specs.NodeState.{NodeState, NodeEvent, number_of, start_node}
-use Rattle.node_rules.specs.NodeState as node
-use Rattle.node_rules.specs.NodeStep.{Plan, nodestep}
-use Rattle.node_rules.specs.Refusals.{refusal, may_install, owns_new}
-use Rattle.node_rules.specs.Work.{Goes}
-use Rattle.node_laws.specs.Nodes.{IsSound, IsViewOf}
-use Rattle.node_laws.proofs.Lists.{set_look, set_same, set_length, all_each, all_weaker}
-use Rattle.home_laws.proofs.Tests.{and_right, number_same}
+use Rattle.run_rules.specs.Account.{after_entry}
+use Rattle.run_rules.specs.Ledger.{Ledger}
+use Rattle.run_rules.specs.Views.{View}
+use Rattle.node_rules.specs.NodeState.{start_node}
+use Rattle.node_laws.proofs.Lists.{set_look}
 use Rattle.cluster_rules.specs.Clusters.{Cluster, node_at, last_view, lose, answer}
-use Rattle.cluster_rules.specs.ClusterStep.{refuse, arm, made, halted, start_one, start_all, all_nodes, returning, make_view, make_reopened}
-use Rattle.cluster_laws.specs.Epochs.{StaysInView, HasInstalled}
-use Rattle.cluster_laws.specs.Handed.{IsHanded}
+use Rattle.cluster_rules.specs.ClusterStep.{refuse, arm, halted, start_one, start_all, all_nodes, returning, make_view, make_reopened}
 use Rattle.cluster_laws.specs.Sound.{IsCluster}
-use Rattle.cluster_laws.proofs.Epochs.{steps_keep_views_law}
-use Rattle.cluster_laws.proofs.Moving.{no_view_is_refused_law}
-use Rattle.cluster_laws.proofs.Steps.{up_is_member_law}
 use Rattle.account_relation.specs.Ledgers.{Leaves}
-use Rattle.account_relation.specs.Replies.{is_behind, AreAnswers, answered, granted, AreReplies}
-use Rattle.account_relation.specs.Seen.{IsSeenAt, IsSeenIn, AreSeen, StepsKeepSeen}
+use Rattle.account_relation.specs.Seen.{IsSeenIn, AreSeen, StepsKeepSeen}
 use Rattle.account_relation.specs.World.{IsWorld, NothingDiffers}
-use Rattle.account_relation.proofs.FirstReplies.{steps_answer_law, installs_view}
-use Rattle.account_relation.proofs.Entered.{acts, local, head_same}
-use Rattle.account_relation.proofs.Heard.{before_same}
 use Rattle.account_relation.proofs.ByKind.{Kinds, by_kind}
 use Rattle.account_relation.proofs.Leaving.{ledgers_are_one_law}
-use Rattle.account_relation.proofs.Sights.{SameSeen, seen_then, tells, all_heard_seen, before_seen, behind_seen, heard_seen}
-use Rattle.account_relation.proofs.SeenSteps.{other_place, in_moved, at_moved, all_moved, quiet_seen, tells_none, tells_behind, Installs, installs, no_install, by_install, installed_first}
+use Rattle.account_relation.proofs.Sights.{SameSeen, tells}
+use Rattle.account_relation.proofs.SeenSteps.{in_moved, all_moved, quiet_seen}
 use Rattle.account_relation.proofs.Telling.{entry}
-use Rattle.account_relation.proofs.Whole.{Made, made_all}
-use Rattle.account_relation.proofs.Following.{found, IsOwnedSince, since_now, since_before, followed, listed, may_install_view}
+use Rattle.account_relation.proofs.Whole.{Made}
 use Rattle.account_relation.proofs.SeenActs.{one_node, acted}
 
 module _ (c : Cluster) (l : Ledger) (i : IsCluster c) (world : IsWorld c l) (are : AreSeen c l) where

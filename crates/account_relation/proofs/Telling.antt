@@ -20,7 +20,6 @@ use Rattle.node_rules.specs.NodeState.{first_node, start_node}
 use Rattle.cluster_rules.specs.Clusters.{Cluster, opening, lose, last_or, last_view, note_entry}
 use Rattle.cluster_rules.specs.ClusterStep.{made, start_one, start_all, all_nodes, returning, add_view}
 use Rattle.account_relation.specs.World.{noted_links, IsWorld, OpeningIsWorld}
-use Rattle.account_relation.proofs.Heard.{SameWorld}
 use Rattle.account_relation.proofs.Noted.{map_set, clear_noted, empty_noted}
 
 -- ---- the opening cluster
@@ -63,10 +62,6 @@ quiet_after x l m none after = by x.sent none after
     by : (ss : List Sent) → ss ≡ [] → after_sends x (all_sends x (taken_of x.event x.replies l) (actor x.event) ss (before_sends (heard x l))) ≡ Some m → m ≡ lose_if (is_lost x) (actor x.event) (heard x l)
     by [] e after = nobody (actor x.event) after
     by (s ∷ ss) e after = absurd (cc)
-
--- the world of a ledger that is that of another one
-pub moved_world : (c : Cluster) (l m : Ledger) → SameWorld l m → IsWorld c l → IsWorld c m
-moved_world c l m same is = record { config = same.config ∙ is.config; up = same.up ∙ is.up; links = same.links ∙ is.links; views = same.views ∙ is.views }
 
 -- a refused event
 pub refused_same : (e : Event) (r : Reason) (l : Ledger) → heard (entry e (reply.Refused r ∷ []) [] None) l ≡ l

@@ -1,5 +1,5 @@
 -- Serving that has come from one link to another, and goes on from there or ends.
-use Rattle.std.proofs.Common.{◌≡◌, refl, sym, ap, subst, ◌∙◌, inl, inr, ℕ, ◌≤◌, List, [], ◌++◌, append_assoc, append-nil, Option, arith}
+use Rattle.std.proofs.Common.{◌≡◌, refl, sym, ap, subst, ◌∙◌, inl, inr, ℕ, ◌≤◌, List, [], ◌++◌, append_assoc, Option, arith}
 use Rattle.std.specs.Io.KnownBytes.{Appends}
 use Rattle.std.proofs.KnownBytes.{Consumes-nil, Consumes-trans, Appends-nil, Appends-trans}
 use Rattle.pcl_base.specs.Faults.{Rose}
@@ -34,9 +34,6 @@ part_before a b xs ys (part, rest, all, text) = (part, rest ++ ys, ap (λ l. l +
 -- nothing is a beginning, and all is
 pub nothing_part : (a : Option (List ℕ)) (xs : List ℕ) → AppendsPart a a xs
 nothing_part a xs = ([], xs, refl, Appends-nil a)
-
-pub whole_part : (a b : Option (List ℕ)) (xs : List ℕ) → Appends a b xs → AppendsPart a b xs
-whole_part a b xs all = (xs, [], sym (append-nil xs), all)
 
 joined_twice : (v w : List ℕ) (s : Served) → joined v (joined w s) ≡ joined (v ++ w) s
 joined_twice v w s = ap (λ x. record { written = x; progress = s.progress }) (sym (append_assoc v w s.written))

@@ -1,5 +1,5 @@
 -- A turn: the next frame is read, and its step is made or serving ends.
-use Rattle.std.proofs.Common.{Bool, true, false, ◌≡◌, refl, sym, ap, subst, ◌∙◌, inl, inr, append-nil, ℕ, zero, suc, ◌+◌, ◌-◌, ◌<◌, ◌≤◌, List, [], ◌∷◌, Option, Some, None, Result, Ok, Err, arith}
+use Rattle.std.proofs.Common.{Bool, true, false, ◌≡◌, refl, sym, ap, subst, ◌∙◌, inl, inr, append-nil, ℕ, zero, suc, ◌+◌, ◌-◌, ◌<◌, List, [], ◌∷◌, Option, Some, None, Result, Ok, Err, arith}
 use Rattle.std.specs.Io.KnownBytes.{Consumes, IsAtEnd, Keeps}
 use Rattle.std.proofs.KnownBytes.{Consumes-nil, Consumes-kept}
 use Rattle.pcl_base.specs.Faults.{Rose}
@@ -18,25 +18,12 @@ use Rattle.serving_parts.specs.declared.end.End.{End}
 use Rattle.serving_parts.specs.declared.end.End.TheVariants.{Decided, Source, Memory}
 use Rattle.serving_parts.specs.Sides.{Outs, Sides, sides_of, outs_of}
 use Rattle.serving_parts.specs.Outcome.{Link, Outcome, first_link}
-use Rattle.serving_parts.specs.Frames.{IsWhole, IsBad, IsTold, IsNext, NextRead}
+use Rattle.serving_parts.specs.Frames.{IsWhole, IsBad, NextRead}
 use Rattle.serving_parts.specs.Written.{WroteLast}
 use Rattle.serving_parts.specs.Works.{Gave}
 use Rattle.serving_parts.specs.Turns.{Ran, Turned, status_of}
 use Rattle.serving_parts.proofs.Ending.{ends_none, ends_unread, ends_wanting, ends_bad, ends_long, ran_outcome}
 use Rattle.serving_parts.proofs.Giving.{gave_turned}
-
--- what a front tells, and then its body
-pub next_of_body : {c : Sizes} {me : ℕ} {left left' : Option (List ℕ)} {faults faults' : ℕ} {body : List ℕ} (result : Result (Option Frame) InputFault)
-    → FrontRead left left' faults faults' body (Ok true) → IsTold c me body result → NextRead c me left left' faults faults' result
-next_of_body {c = c} {me = me} {left = left} {left' = left'} {faults = faults} {faults' = faults'} {body = body} result front told =
-    record { taken = front.taken; consumed = front.consumed; later = front.later; next = by result told }
-  where
-    by : (r : Result (Option Frame) InputFault) → IsTold c me body r → IsNext c me left' faults faults' front.taken r
-    by (Ok (Some f)) told = (record { body = body; front = front.front; told = told.0 }, told.1)
-    by (Ok None) told = absurd told
-    by (Err (fault.Bad place reason)) told = inr (record { body = body; front = front.front; told = told })
-    by (Err fault.Source) told = absurd told
-    by (Err fault.NoMemory) told = tt
 
 -- a bad front
 bad_front_is : (left' : Option (List ℕ)) (taken : List ℕ) (place : ℕ) (reason : Reason) → IsBadFront left' taken place reason → front_of taken ≡ bad_front (bad_frame place reason)
@@ -58,11 +45,6 @@ next_of_fault {left' = left'} (fault.Bad place reason) front =
     }
 next_of_fault fault.Source front = record { taken = front.taken; consumed = front.consumed; later = front.later; next = front.front }
 next_of_fault fault.NoMemory front = record { taken = front.taken; consumed = front.consumed; later = front.later; next = tt }
-
--- the end of the input
-pub next_of_end : {c : Sizes} {me : ℕ} {left left' : Option (List ℕ)} {faults faults' : ℕ} {body : List ℕ}
-    → FrontRead left left' faults faults' body (Ok false) → NextRead c me left left' faults faults' (Ok None)
-next_of_end front = record { taken = front.taken; consumed = front.consumed; later = front.later; next = front.front }
 
 module _ (c : Sizes) (me most number : ℕ) (n : NodeState) (config : n.home.config ≡ c) (number_is : number_of n ≡ me) (old : Sides) (left' : Option (List ℕ)) (source' : ℕ) where
   own_whole : (taken : List ℕ) (r : Result frame BadFrame) → IsWhole c me taken r → IsWhole n.home.config (number_of n) taken r
@@ -160,6 +142,3 @@ started c me limit n old new end status is same ran =
 -- one frame of those that may be read is taken
 pub one_less : (limit done : ℕ) → done < limit → limit - done ≡ suc (limit - (done + 1))
 one_less limit done less = omega (arith, less)
-
-pub none_left : (limit done : ℕ) → done ≤ limit → ¬ (done < limit) → (limit - done ≡ zero) × (done ≡ limit)
-none_left limit done most not_less = (omega (arith, most, not_less), omega (arith, most, not_less))
