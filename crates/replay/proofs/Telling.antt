@@ -8,7 +8,7 @@ use Rattle.pcl_base.specs.declared.event.Event.{Event}
 use Rattle.pcl_base.specs.declared.trace.Entry.{Entry}
 use Rattle.text_rules.specs.ReadLine.{header_of}
 use Rattle.text_rules.specs.ReadEvent.{event_of}
-use Rattle.text_rules.specs.BadLine.{bad_at, bad_text, event_forms, header_forms}
+use Rattle.text_rules.specs.BadLine.{bad_at, bad_text, event_forms}
 use Rattle.text_rules.specs.TraceText.{end_text}
 use Rattle.text_rules.specs.Totals.{Totals, totals_of, totals_text}
 use Rattle.schedule_text.specs.LineAnswer.{why_of}
@@ -169,11 +169,6 @@ part_feeds v b old room other short =
     })
 
 -- ---- the end of the input
-
-pub end_header : (t : Bool) (r : Reading) → r.cluster ≡ None
-    → ((at_end t (Going r)).text ≡ bad_line r.lines (bad_at false header_forms r.part)) × ((at_end t (Going r)).place ≡ Stopped 3)
-unfolding at_end
-end_header t r none = (ap (λ o. (ended_by t r o).text) none, ap (λ o. (ended_by t r o).place) none)
 
 -- behind some bytes of a line
 ended_within : (t : Bool) (r : Reading) (c : Cluster) (part : List ℕ) → (length part == 0) ≡ false

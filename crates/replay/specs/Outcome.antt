@@ -1,5 +1,5 @@
 -- What a run leaves of the input and of the output, by its status.
-use Rattle.std.specs.Prelude.{◌≡◌, ℕ, ◌+◌, ◌==◌, ◌||◌, ◌⊎◌, Bool, List, ◌∷◌, ◌++◌, codes, Option, Some, IsTrue}
+use Rattle.std.specs.Prelude.{◌≡◌, ℕ, ◌==◌, ◌||◌, ◌⊎◌, Bool, List, ◌∷◌, ◌++◌, codes, Option, Some, IsTrue}
 use Rattle.std.specs.Io.KnownBytes.{Appends, Consumes}
 use Rattle.pcl_base.specs.Faults.{Rose}
 use Rattle.pcl_base.specs.declared.event.Event.{Event}
