@@ -48,8 +48,9 @@ pub(crate) fn apply_chains<S: Storage>(
     Ok(())
 }
 
-/// Makes a page that is newer by its chain than the stored page, and writes it. A stored page that
-/// is bad now, although it was good when the chain was made, is left as it is.
+/// Makes a page that is newer by its chain than the stored page, and writes it. A page whose chain has
+/// no entries isn't read again. A stored page that is bad now, although it was good when the chain was
+/// made, is left as it is.
 fn apply_chain<S: Storage>(
     s: &mut S,
     config: &Config,
@@ -73,6 +74,9 @@ fn apply_chain<S: Storage>(
     ensures counts { (k : Kind) → S.faults s.old k ≤ S.faults s.new k }
     ensures cause { (k : Kind) → IfErr result (λ e. e ≡ k → Rose (S.faults s.old k) (S.faults s.new k)) }
 {
+    if chain.sites.is_empty() {
+        return Ok(());
+    }
     match stored_version(s, by, chain.page, raw) {
         Ok(version) => {
             if version < chain.version {
