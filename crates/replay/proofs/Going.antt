@@ -74,7 +74,7 @@ pub record Further (status : Option ℕ) (a b : Option (List ℕ)) : Type 0 wher
 pub no_last : (status : Option ℕ) (text : List ℕ) → IsRuleStop status → IsLast status text
 no_last status text stop = λ e. let bad : false ≡ true = subst IsRuleStop e stop in absurd (cc)
 
-not_ended : (text : List ℕ) → IsLast None text
+pub not_ended : (text : List ℕ) → IsLast None text
 not_ended text = λ e. absurd (cc)
 
 last_behind : (status : Option ℕ) (x y : List ℕ) → IsLast status y → IsLast status (x ++ y)

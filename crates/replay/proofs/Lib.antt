@@ -11,3 +11,4 @@ mod Alone
 mod Reaching
 mod Outcomes
 mod Endings
+mod Holding

@@ -3,3 +3,4 @@ pub mod TracedRun
 pub mod Outcome
 pub mod Told
 pub mod Wrote
+pub mod Held

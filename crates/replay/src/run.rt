@@ -1,11 +1,12 @@
-ghost use Rattle.std.specs.Prelude.{◌≡◌, ◌<◌, [], ◌∷◌, length, OnOk, IfOk, IsTrue};
+ghost use Rattle.std.specs.Prelude.{◌≡◌, ◌<◌, ◌≤◌, [], ◌∷◌, length, OnOk, IfOk, IsTrue};
 ghost use Rattle.replay_rules.specs.Due.{at_end};
 ghost use Rattle.replay_rules.specs.Due.Place.{Going, Stopped};
-ghost use Rattle.replay_rules.specs.Outcome.{is_judged};
+ghost use Rattle.replay_rules.specs.Outcome.{AppendsPart, is_judged};
 ghost use Rattle.replay.specs.Outcome.{Outcome};
 ghost use Rattle.replay.specs.ReaderView.{first_reader};
+ghost use Rattle.replay.specs.Held.{Held, HeldAll, Stored};
 ghost use Rattle.replay.specs.Told.{IsStop};
-ghost use Rattle.replay.specs.Wrote.{Closes, HasBlame, Took, Wrote, status_of};
+ghost use Rattle.replay.specs.Wrote.{Closes, HasBlame, IsWriteFault, Took, Wrote, status_of};
 
 use crate::ends::{Fault, write_all};
 use crate::reader::Reader;
@@ -15,6 +16,9 @@ use std::alloc::Global;
 
 /// The bytes that are asked of the source at once.
 const PIECE: usize = 65_536;
+
+/// So much text is written although the piece has further bytes.
+const MUCH: usize = 65_536;
 
 /// Runs the schedule that the source gives in a cluster of its own, writes its trace to the sink, or where
 /// `totals` is true its totals alone, and answers the status.
@@ -45,9 +49,11 @@ fn run<I: Source, O: Sink>(
 {
     let mut reader = Reader::new(alloc, totals);
     let mut text = Text::new(alloc);
+    let mut held = Text::new(alloc);
     match vec![in alloc; 0u8; PIECE] {
         Ok(mut piece) => {
-            let result = read_all(&mut reader, &mut text, piece.as_mut_slice(), input, output);
+            let piece = piece.as_mut_slice();
+            let result = read_all(&mut reader, &mut text, &mut held, piece, input, output);
             reader.close();
             result
         }
@@ -62,12 +68,14 @@ fn run<I: Source, O: Sink>(
 fn read_all<I: Source, O: Sink>(
     reader: &mut Reader,
     text: &mut Text,
+    held: &mut Text,
     piece: &mut [u8],
     input: &mut I,
     output: &mut O,
 ) -> Result<u8, Fault>
     requires first { reader.old ≡ first_reader reader.old.totals }
     requires empty { text.old ≡ [] }
+    requires none { held.old ≡ [] }
     requires room { 0 < length piece.old }
     ensures { Outcome reader.old.totals (I.left input.old) (I.left input.new) (O.written output.old) (O.written output.new) (I.faults input.old) (I.faults input.new) (O.faults output.old) (O.faults output.new) (status_of result) }
 {
@@ -75,7 +83,7 @@ fn read_all<I: Source, O: Sink>(
         match input.read(piece) {
             Err(_) => return Err(Fault::Source),
             Ok(0) => return finish(reader, text, output),
-            Ok(count) => match take(reader, &piece[..count], text, output) {
+            Ok(count) => match take(reader, &piece[..count], text, held, output) {
                 Err(fault) => return Err(fault),
                 Ok(Some(status)) => return Ok(status),
                 Ok(None) => {}
@@ -86,21 +94,48 @@ fn read_all<I: Source, O: Sink>(
     Err(Fault::Memory)
 }
 
-/// Takes the bytes of a piece. It gives a status where the run is over.
+/// Takes the bytes of a piece, and writes what they give. It gives a status where the run is over.
 fn take<O: Sink>(
     reader: &mut Reader,
     piece: &[u8],
     text: &mut Text,
+    held: &mut Text,
     output: &mut O,
 ) -> Result<Option<u8>, Fault>
-    requires { text.old ≡ [] }
+    requires empty { text.old ≡ [] }
+    requires none { held.old ≡ [] }
     ensures took { Took reader.old piece.now (O.written output.old) (O.written output.new) result reader.new }
+    ensures blame { HasBlame (O.faults output.old) (O.faults output.new) result }
+    ensures empty { OnOk result (text.new ≡ []) }
+    ensures none { OnOk result (held.new ≡ []) }
+    ensures stop { IfOk result IsStop }
+{
+    match take_all(reader, piece, text, held, output) {
+        Err(fault) => Err(fault),
+        Ok(status) => match flush(held, output) {
+            Err(fault) => Err(fault),
+            Ok(()) => Ok(status),
+        },
+    }
+}
+
+/// Takes the bytes of a piece. What they give is written where it is much, and held back where it isn't.
+fn take_all<O: Sink>(
+    reader: &mut Reader,
+    piece: &[u8],
+    text: &mut Text,
+    held: &mut Text,
+    output: &mut O,
+) -> Result<Option<u8>, Fault>
+    requires empty { text.old ≡ [] }
+    requires none { held.old ≡ [] }
+    ensures took { HeldAll reader.old piece.now (O.written output.old) (O.written output.new) held.new result reader.new }
     ensures blame { HasBlame (O.faults output.old) (O.faults output.new) result }
     ensures empty { OnOk result (text.new ≡ []) }
     ensures stop { IfOk result IsStop }
 {
     for byte in piece {
-        match take_byte(reader, *byte, text, output) {
+        match take_byte(reader, *byte, text, held, output) {
             Err(fault) => return Err(fault),
             Ok(Some(status)) => return Ok(Some(status)),
             Ok(None) => {}
@@ -109,25 +144,55 @@ fn take<O: Sink>(
     Ok(None)
 }
 
-/// Takes a byte and writes what it gives.
+/// Takes a byte. Where that can't be done, what was held back is written first.
 fn take_byte<O: Sink>(
     reader: &mut Reader,
     byte: u8,
     text: &mut Text,
+    held: &mut Text,
     output: &mut O,
 ) -> Result<Option<u8>, Fault>
     requires { text.old ≡ [] }
-    ensures took { Took reader.old (byte ∷ []) (O.written output.old) (O.written output.new) result reader.new }
+    ensures took { Held reader.old (byte ∷ []) (O.written output.old) held.old (O.written output.new) held.new result reader.new }
     ensures blame { HasBlame (O.faults output.old) (O.faults output.new) result }
     ensures empty { OnOk result (text.new ≡ []) }
     ensures stop { IfOk result IsStop }
 {
     match reader.feed(byte, text) {
-        Err(_) => Err(Fault::Memory),
-        Ok(status) => match flush(text, output) {
+        Err(_) => Err(give_up(held, output)),
+        Ok(status) => match store(text, held, output) {
             Err(fault) => Err(fault),
             Ok(()) => Ok(status),
         },
+    }
+}
+
+/// Puts the text behind what is held back, and clears it. Much is written at once.
+fn store<O: Sink>(text: &mut Text, held: &mut Text, output: &mut O) -> Result<(), Fault>
+    ensures stored { Stored (O.written output.old) held.old text.old (O.written output.new) held.new result }
+    ensures blame { HasBlame (O.faults output.old) (O.faults output.new) result }
+    ensures empty { OnOk result (text.new ≡ []) }
+{
+    match held.gather(text) {
+        Err(_) => Err(give_up(held, output)),
+        Ok(()) => {
+            if held.as_slice().len() < MUCH {
+                return Ok(());
+            }
+            flush(held, output)
+        }
+    }
+}
+
+/// Writes what is held back before want of memory ends the run.
+fn give_up<O: Sink>(held: &mut Text, output: &mut O) -> Fault
+    ensures part { AppendsPart (O.written output.old) (O.written output.new) held.old }
+    ensures later { O.faults output.old ≤ O.faults output.new }
+    ensures cause { IsWriteFault (O.faults output.old) (O.faults output.new) result }
+{
+    match flush(held, output) {
+        Err(fault) => fault,
+        Ok(()) => Fault::Memory,
     }
 }
 

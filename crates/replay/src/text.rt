@@ -1,4 +1,4 @@
-ghost use Rattle.std.specs.Prelude.{◌≡◌, ◌+◌, ◌++◌, [], codes, true, OnOk};
+ghost use Rattle.std.specs.Prelude.{◌≡◌, ◌+◌, ◌++◌, [], codes, true, OnOk, OnErr};
 ghost use Rattle.text_rules.specs.ScheduleLine.{HasLine, spaced};
 ghost use Rattle.text_rules.specs.TraceText.{echo_text, ended, entry_text};
 ghost use Rattle.text_rules.specs.BadLine.{bad_header_text};
@@ -50,6 +50,18 @@ impl Text {
         ensures { self.new ≡ [] }
     {
         self.bytes.clear();
+    }
+
+    /// Puts another text behind this one, and clears that one, which keeps its memory. Where there is no
+    /// memory, both stay.
+    pub(crate) fn gather(&mut self, other: &mut Text) -> Result<(), NoMemory>
+        ensures gathered { OnOk result (self.new ≡ self.old ++ other.old) }
+        ensures cleared { OnOk result (other.new ≡ []) }
+        ensures kept { OnErr result (self.new ≡ self.old) }
+    {
+        self.bytes.extend_from_slice(other.as_slice())?;
+        other.clear();
+        Ok(())
     }
 
     /// Appends bytes.

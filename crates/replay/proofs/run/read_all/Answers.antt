@@ -13,6 +13,7 @@ pub loop-init : goal.loop-init
 loop-init g c =
     record {
       empty = c.requires.empty;
+      none = c.requires.none;
       room = c.requires.room;
       reached = first_reached c.args.reader.now (g.I.Source.left c.args.input.now) (g.O.Sink.written c.args.output.now) (g.I.Source.faults c.args.input.now) (g.O.Sink.faults c.args.output.now);
     }
@@ -46,7 +47,7 @@ slice_bounds-take-end-in-Ok g c =
     omega (arith, most, len)
 
 pub take-requires : goal.take-requires
-take-requires g c = c.loop.invariant.empty
+take-requires g c = record { empty = c.loop.invariant.empty; none = c.loop.invariant.none }
 
 pub returns-in-Err-take : goal.returns-in-Err-take
 returns-in-Err-take g c =
@@ -67,6 +68,7 @@ loop-preserved g c =
     let blame = c.in-Ok-None.ensures.blame in
     record {
       empty = c.in-Ok-None.ensures.empty;
+      none = c.in-Ok-None.ensures.none;
       room = omega (arith, c.loop.invariant.room, c.read.auto.out);
       reached =
           piece_read c.args.reader.now c.loop.reader c.take.new.reader _ _ _ _ _ _ _ _ _ _ _ _ (take c.in-Ok.count c.read.new.out) c.loop.invariant.reached c.in-Ok.ensures.bytes.0

@@ -1,41 +1,26 @@
-use Rattle.std.proofs.Common.{[], ◌∷◌, get_or, arith, subst, None}
-use Rattle.replay.specs.Wrote.{Went}
-use Rattle.replay.proofs.Going.{went_nothing, fault_earlier}
-use Rattle.replay.proofs.Pieces.{next_went, next_stopped, next_broke}
+use Rattle.std.proofs.Common.{arith}
+use Rattle.replay.proofs.Going.{fault_earlier}
+use Rattle.replay.proofs.Holding.{cut_short, went_same, held_written}
 use Rattle.replay.proofs.run.take.Goals as goal
 
-pub loop-byte-init : goal.loop-byte-init
-loop-byte-init g c =
-    record { empty = c.requires; later = omega arith; went = went_nothing c.args.reader.now (g.O.Sink.written c.args.output.now) }
+pub returns-in-Err-flush-clause-took : goal.returns-in-Err-flush-clause-took
+returns-in-Err-flush-clause-took g c =
+    let took = c.in-Ok.ensures.took in
+    cut_short c.args.reader.now c.take_all.new.reader c.args.piece.now _ _ _ c.take_all.new.held c.in-Ok.status took.1 took.0 c.in-Err-flush.ensures.wrote.part
 
-pub returns-in-Err-clause-took : goal.returns-in-Err-clause-took
-returns-in-Err-clause-took g c =
-    next_broke c.args.reader.now c.loop-byte.reader c.args.piece.now c.loop-byte.byte-index _ _ _ (omega (arith, c.loop-byte-test.true)) c.loop-byte.invariant.went c.in-Err.ensures.took
+pub returns-in-Err-flush-clause-blame : goal.returns-in-Err-flush-clause-blame
+returns-in-Err-flush-clause-blame g c =
+    let before = c.in-Ok.ensures.blame in
+    let blame = c.in-Err-flush.ensures.blame in
+    record { later = omega (arith, before.later, blame.later); cause = fault_earlier _ _ _ c.in-Err-flush.fault before.later blame.cause }
 
-pub returns-in-Err-clause-blame : goal.returns-in-Err-clause-blame
-returns-in-Err-clause-blame g c =
-    let before = c.loop-byte.invariant in
-    let blame = c.in-Err.ensures.blame in
-    record { later = omega (arith, before.later, blame.later); cause = fault_earlier _ _ _ c.in-Err.fault before.later blame.cause }
+pub returns-in-Ok-flush-clause-took : goal.returns-in-Ok-flush-clause-took
+returns-in-Ok-flush-clause-took g c =
+    let took = c.in-Ok.ensures.took in
+    went_same c.args.reader.now c.take_all.new.reader c.args.piece.now _ _ _ c.in-Ok.status (held_written _ _ c.take_all.new.held c.in-Ok-flush.ensures.wrote.whole) took.1
 
-pub returns-in-Ok-Some-clause-took : goal.returns-in-Ok-Some-clause-took
-returns-in-Ok-Some-clause-took g c =
-    next_stopped c.args.reader.now c.loop-byte.reader c.take_byte.new.reader c.args.piece.now c.loop-byte.byte-index _ _ _ c.in-Ok-Some.status (omega (arith, c.loop-byte-test.true)) c.loop-byte.invariant.went
-    (subst (λ s. Went c.loop-byte.reader (get_or c.args.piece.now c.loop-byte.byte-index 0 ∷ []) (g.O.Sink.written c.loop-byte.output) (g.O.Sink.written c.take_byte.new.output) s c.take_byte.new.reader) c.in-Ok-Some.field-0-is c.in-Ok-Some.ensures.took)
-
-pub returns-in-Ok-Some-clause-blame : goal.returns-in-Ok-Some-clause-blame
-returns-in-Ok-Some-clause-blame g c =
-    let before = c.loop-byte.invariant in
-    let blame = c.in-Ok-Some.ensures.blame in
+pub returns-in-Ok-flush-clause-blame : goal.returns-in-Ok-flush-clause-blame
+returns-in-Ok-flush-clause-blame g c =
+    let before = c.in-Ok.ensures.blame in
+    let blame = c.in-Ok-flush.ensures.blame in
     record { later = omega (arith, before.later, blame.later); cause = tt }
-
-pub loop-byte-preserved : goal.loop-byte-preserved
-loop-byte-preserved g c =
-    let before = c.loop-byte.invariant in
-    record {
-      empty = c.in-Ok-None.ensures.empty;
-      later = let blame = c.in-Ok-None.ensures.blame in omega (arith, before.later, blame.later);
-      went =
-          next_went c.args.reader.now c.loop-byte.reader c.take_byte.new.reader c.args.piece.now c.loop-byte.byte-index _ _ _ None (omega (arith, c.loop-byte-test.true)) before.went
-          (subst (λ s. Went c.loop-byte.reader (get_or c.args.piece.now c.loop-byte.byte-index 0 ∷ []) (g.O.Sink.written c.loop-byte.output) (g.O.Sink.written c.take_byte.new.output) s c.take_byte.new.reader) c.in-Ok-None.field-0-is c.in-Ok-None.ensures.took);
-    }

@@ -1,14 +1,15 @@
 use Rattle.std.proofs.Common.{inl}
-use Rattle.replay.proofs.Going.{part_nothing, went_byte, broke_byte}
+use Rattle.replay.proofs.Holding.{held_byte, broken_byte}
 use Rattle.replay.proofs.run.take_byte.Goals as goal
 
 pub returns-in-Err-clause-took : goal.returns-in-Err-clause-took
-returns-in-Err-clause-took g c = inl (part_nothing (g.O.Sink.written c.args.output.now) _)
+returns-in-Err-clause-took g c = inl c.give_up.ensures.part
 
-pub returns-in-Err-flush-clause-took : goal.returns-in-Err-flush-clause-took
-returns-in-Err-flush-clause-took g c =
-    broke_byte c.args.reader.now c.feed.new.self c.args.byte c.args.text.now c.feed.new.text _ _ c.in-Ok.status c.requires c.in-Ok.ensures.told c.in-Err-flush.ensures.wrote.part
+pub returns-in-Err-store-clause-took : goal.returns-in-Err-store-clause-took
+returns-in-Err-store-clause-took g c =
+    broken_byte c.args.reader.now c.feed.new.self c.args.byte c.args.text.now c.feed.new.text _ _ c.args.held.now c.in-Ok.status c.requires c.in-Ok.ensures.told c.in-Err-store.ensures.stored
 
-pub returns-in-Ok-flush-clause-took : goal.returns-in-Ok-flush-clause-took
-returns-in-Ok-flush-clause-took g c =
-    went_byte c.args.reader.now c.feed.new.self c.args.byte c.args.text.now c.feed.new.text _ _ c.in-Ok.status c.requires c.in-Ok.ensures.told c.in-Ok-flush.ensures.wrote.whole
+pub returns-in-Ok-store-clause-took : goal.returns-in-Ok-store-clause-took
+returns-in-Ok-store-clause-took g c =
+    let stored = c.in-Ok-store.ensures.stored in
+    (stored.0, held_byte c.args.reader.now c.feed.new.self c.args.byte c.args.text.now c.feed.new.text _ _ c.args.held.now c.store.new.held c.in-Ok.status c.requires c.in-Ok.ensures.told stored.1)
