@@ -16,6 +16,13 @@ const TEXT: &[u8] =
 const TOTALS: &[u8] =
     b"events 7\nbegun 2\nvalues 2\ndone 1\nwaits 0\ncommitted 2\naborted 0\nheld 0\ndropped 0\nrefused 0\nhalted 0\nrequests 0\ngrants 0\nreleases 0\nrevokes 0\nreturns 0\nreports 0\nimages 0\n";
 
+/// Three transactions use one page, and the one that writes it waits for the others.
+const WAITING: &[u8] =
+    b"pcl 1 1 1 8 4\nbegin 0\nbegin 0\nbegin 0\nread 0.1.1 0\nread 0.1.2 0\nwrite 0.1.3 0 0 01\ncommit 0.1.1\ncommit 0.1.2\ncommit 0.1.3\n";
+
+const WAITING_TEXT: &[u8] =
+    b"> pcl 1 1 1 8 4\n> begin 0\nbegun 0.1.1\n> begin 0\nbegun 0.1.2\n> begin 0\nbegun 0.1.3\n> read 0.1.1 0\nvalue 0.1.1 0 0 0000000000000000\n> read 0.1.2 0\nvalue 0.1.2 0 0 0000000000000000\n> write 0.1.3 0 0 01\nwaits 0.1.3 0\n> commit 0.1.1\ncommitted 0.1.1\n> commit 0.1.2\ncommitted 0.1.2\ndone 0.1.3 0 0\n> commit 0.1.3\ncommitted 0.1.3\nend 9 3\n";
+
 /// The folder of a store that is never used.
 const UNUSED: &str = "pcl-unused";
 
@@ -48,10 +55,10 @@ fn ran(
     Ok((status, Vec::from_slice(alloc, sink.bytes())?))
 }
 
-/// The status and the text that a word gives of the plain path.
-fn told(
+/// The status and the text that the word `replay` gives.
+fn replayed(
     rt: HostRuntime,
-    word: &str,
+    input: &[u8],
     piece: usize,
     failing_read: u64,
     failing_write: u64,
@@ -60,52 +67,48 @@ fn told(
 {
     ran(
         rt,
-        &[word],
+        &["replay"],
         UNUSED,
-        PLAIN_PATH,
+        input,
         piece,
         failing_read,
         failing_write,
     )
 }
 
-/// The same of the word `replay`.
-fn replayed(
-    rt: HostRuntime,
-    piece: usize,
-    failing_read: u64,
-    failing_write: u64,
-) -> Result<(u8, Vec<u8>), Fail>
-    requires { 1 ≤ piece }
-{
-    told(rt, "replay", piece, failing_read, failing_write)
-}
-
 #[test]
 fn totals_of_the_plain_path(rt: HostRuntime) -> Result<(), Fail> {
-    let (status, text) = told(rt, "summary", 7, 0, 0)?;
+    let (status, text) = ran(rt, &["summary"], UNUSED, PLAIN_PATH, 7, 0, 0)?;
     assert_eq!(rt; status, 0);
     assert_eq!(rt; text.as_slice(), TOTALS);
     Ok(())
 }
 
 #[test]
-fn plain_path_in_pieces(rt: HostRuntime) -> Result<(), Fail> {
-    for piece in [1, 7, 1_000] {
-        let (status, text) = replayed(rt, piece, 0, 0)?;
-        assert_eq!(rt; status, 0);
-        assert_eq!(rt; text.as_slice(), TEXT);
+fn schedules_in_pieces(rt: HostRuntime) -> Result<(), Fail> {
+    for (input, expected) in [(PLAIN_PATH, TEXT), (WAITING, WAITING_TEXT)] {
+        for piece in [1, 7, 1_000] {
+            let (status, text) = replayed(rt, input, piece, 0, 0)?;
+            assert_eq!(rt; status, 0);
+            assert_eq!(rt; text.as_slice(), expected);
+        }
     }
     Ok(())
 }
 
 #[test]
 fn source_fails_at_each_call(rt: HostRuntime) -> Result<(), Fail> {
-    for (piece, calls) in [(7, 16), (1_000, 2)] {
+    let rows = [
+        (PLAIN_PATH, TEXT, 7, 16),
+        (PLAIN_PATH, TEXT, 1_000, 2),
+        (WAITING, WAITING_TEXT, 7, 19),
+        (WAITING, WAITING_TEXT, 1_000, 2),
+    ];
+    for (input, expected, piece, calls) in rows {
         for call in 1..calls + 1 {
-            let (status, text) = replayed(rt, piece, call, 0)?;
+            let (status, text) = replayed(rt, input, piece, call, 0)?;
             assert_eq!(rt; status, 4);
-            assert!(rt; TEXT.starts_with(text.as_slice()));
+            assert!(rt; expected.starts_with(text.as_slice()));
         }
     }
     Ok(())
@@ -113,11 +116,17 @@ fn source_fails_at_each_call(rt: HostRuntime) -> Result<(), Fail> {
 
 #[test]
 fn sink_fails_at_each_call(rt: HostRuntime) -> Result<(), Fail> {
-    for (piece, calls) in [(7, 43), (1_000, 9)] {
+    let rows = [
+        (PLAIN_PATH, TEXT, 7, 43),
+        (PLAIN_PATH, TEXT, 1_000, 2),
+        (WAITING, WAITING_TEXT, 7, 53),
+        (WAITING, WAITING_TEXT, 1_000, 2),
+    ];
+    for (input, expected, piece, calls) in rows {
         for call in 1..calls + 1 {
-            let (status, text) = replayed(rt, piece, 0, call)?;
+            let (status, text) = replayed(rt, input, piece, 0, call)?;
             assert_eq!(rt; status, 5);
-            assert!(rt; TEXT.starts_with(text.as_slice()));
+            assert!(rt; expected.starts_with(text.as_slice()));
         }
     }
     Ok(())
@@ -220,15 +229,24 @@ const FRAMES: &[u8] =
 const ANSWERS: &[u8] =
     b"\0\0\0\x17Rinstalled 1\nserving 0\n\0\0\0\x0dRbegun 0.1.1\n\0\0\0\x10Rdone 0.1.1 0 0\n\0\0\0\x11Rcommitted 0.1.1\n";
 
+/// Frames of view 2, in which the node is born anew, and of a transaction that reads the page.
+const FRAMES_AGAIN: &[u8] =
+    b"\0\0\0\x0fV\0\0\0\x02\x01\0\0\0\0\x02\0\0\0\x02\0\0\0\x08Lbegin 0\0\0\0\x0dLread 0.2.1 0\0\0\0\x0dLcommit 0.2.1";
+
+const ANSWERS_AGAIN: &[u8] =
+    b"\0\0\0\x17Rinstalled 2\nserving 0\n\0\0\0\x0dRbegun 0.2.1\n\0\0\0\x22Rvalue 0.2.1 0 1 0100000000000000\n\0\0\0\x11Rcommitted 0.2.1\n";
+
 #[test]
-fn a_node_over_a_folder(rt: HostRuntime) -> Result<(), Fail> {
+fn a_node_stops_and_starts_again_over_a_folder(rt: HostRuntime) -> Result<(), Fail> {
     let parent = env::temp_dir(&rt)?;
     let id = process::id(rt.process());
     let folder = format!(in rt.alloc(); "{}/pcl-node-{id}", parent.display())?;
     let words = ["node", "0", "1", "1", "8", "2"];
-    let (status, text) = ran(rt, words.as_slice(), folder.as_str(), FRAMES, 5, 0, 0)?;
-    assert_eq!(rt; status, 0);
-    assert_eq!(rt; text.as_slice(), ANSWERS);
+    for (frames, answers) in [(FRAMES, ANSWERS), (FRAMES_AGAIN, ANSWERS_AGAIN)] {
+        let (status, text) = ran(rt, words.as_slice(), folder.as_str(), frames, 5, 0, 0)?;
+        assert_eq!(rt; status, 0);
+        assert_eq!(rt; text.as_slice(), answers);
+    }
     let log = format!(in rt.alloc(); "{folder}/log0")?;
     assert!(rt; 0 < fs::metadata(&rt, log.as_str())?.len());
     fs::remove_dir_all(&rt, folder.as_str())?;
