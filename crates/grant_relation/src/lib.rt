@@ -1,0 +1,12 @@
+#![tactic(auto)]
+
+//! Granted accesses: what is made of the relation of a cluster and the machine of one page where an access that is
+//! granted is performed at its home, where a grant is carried out there, and where one arrives.
+//!
+//! Each law is the clause of a function that does nothing.
+
+mod accesses;
+
+pub use accesses::{
+    held_may_access, links_go_on, perform_is_step, performs_elsewhere, tables_go_on,
+};
