@@ -1,9 +1,8 @@
 -- Homes of transactions that went on.
-use Rattle.std.proofs.Common.{◌≡◌, ℕ, Bool, true, false, List, Option, Some, None}
+use Rattle.std.proofs.Common.{ℕ, Bool, true, false, List, Option, Some, None}
 use Rattle.pcl_base.specs.declared.lock.Waiter.{Waiter}
 use Rattle.pcl_base.specs.declared.message.Body.{Body}
 use Rattle.pcl_base.specs.declared.message.Body.TheVariants as body
-use Rattle.pcl_base.specs.declared.message.Message.{Message}
 use Rattle.pcl_base.specs.declared.message.Report.{Report}
 use Rattle.pcl_base.specs.declared.message.ReportWait.{ReportWait}
 use Rattle.pcl_base.specs.declared.tx.TxId.{TxId}
@@ -60,7 +59,7 @@ module _ (a : Page) (home : TxId → Home) (slot : ℕ → Option Copy) (script 
   node_on p q n None is = tt
   node_on p q n (Some s) is = table_in_on p n (era_in s.view q) (table_at s q) is
 
-  tables_on : (d : Cluster) (p q : ℕ) → TablesAre d p q a → TablesAre d p q next
+  pub tables_on : (d : Cluster) (p q : ℕ) → TablesAre d p q a → TablesAre d p q next
   tables_on d p q is = record { tables = λ n. node_on p q n (node_at d n) (is.tables n); serving = is.serving; era = is.era }
 
   wait_on : (p e : ℕ) (w : ReportWait) → WaitIs a.reached a.home p e w → WaitIs a.reached home p e w
@@ -85,7 +84,7 @@ module _ (a : Page) (home : TxId → Home) (slot : ℕ → Option Copy) (script 
   says_on p from to e (body.Return r) is = is
   says_on p from to e (body.Report r) is = report_on p from e r is
 
-  links_on : (d : Cluster) (p q : ℕ) → LinksAre d p q a → LinksAre d p q next
+  pub links_on : (d : Cluster) (p q : ℕ) → LinksAre d p q a → LinksAre d p q next
   links_on d p q is =
       record {
         say = λ from to.

@@ -1,1 +1,5 @@
 pub mod Going
+pub mod Replied
+pub mod Writing
+pub mod Performing
+pub mod Elsewhere

@@ -13,7 +13,7 @@ use Rattle.cluster_rules.specs.Clusters.{Cluster}
 use Rattle.moment_laws.specs.Looks.{asked_last}
 use Rattle.page_protocol.specs.Homes.{reading, writing}
 use Rattle.page_protocol.specs.State.{Home, Holding, Page, IsGranted}
-use Rattle.page_protocol.specs.Steps.{Step, Reached}
+use Rattle.page_protocol.specs.Steps.{Step}
 use Rattle.work_relation.specs.Events.{IsEntered}
 use Rattle.work_relation.specs.Keeping.{IsWorkOf}
 use Rattle.work_relation.specs.Landing.{Acts, trace_of}
@@ -48,8 +48,8 @@ pub record IsPerformed (c : Cluster) (e : Event) (n p : ℕ) (t : TxId) (write :
 
 abbrev pub PerformIsStep : Type 0
 PerformIsStep =
-    (c : Cluster) (e : Event) (n p : ℕ) (t : TxId) (write : Option (ℕ × List ℕ)) (blank : List ℕ) (w : Work) (a : Page) → Acts c n → Reached blank a
-    → MayPerform c e n t write w a → IsWorkOf c e n p w a → IsPerformed c e n p t write w a
+    (c : Cluster) (e : Event) (n p : ℕ) (t : TxId) (write : Option (ℕ × List ℕ)) (w : Work) (a : Page) → Acts c n → MayPerform c e n t write w a
+    → IsWorkOf c e n p w a → IsPerformed c e n p t write w a
 
 -- A transaction that holds the page in a mode that allows the access, and waits for nothing, may do it.
 abbrev pub HeldMayAccess : Type 0
