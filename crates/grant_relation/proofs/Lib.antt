@@ -3,3 +3,10 @@ pub mod Replied
 pub mod Writing
 pub mod Performing
 pub mod Elsewhere
+pub mod Ready
+pub mod Facts
+pub mod Bringing
+pub mod Homing
+pub mod Filling
+pub mod Carrying
+pub mod Accepting

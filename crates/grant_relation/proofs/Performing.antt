@@ -110,7 +110,7 @@ reading_entered : (a : Page) (t : TxId) → IsEntered a → IsEntered (reading a
 unfolding reading
 reading_entered a t is = is
 
-writing_entered : (a : Page) (t : TxId) (place : ℕ) (piece : List ℕ) → IsEntered a → IsEntered (writing a t place piece)
+pub writing_entered : (a : Page) (t : TxId) (place : ℕ) (piece : List ℕ) → IsEntered a → IsEntered (writing a t place piece)
 unfolding writing
 writing_entered a t place piece is = is
 
