@@ -1,5 +1,6 @@
 -- A grant without a right that is carried out: the machine's acceptance.
 use Rattle.std.proofs.Common.{◌≡◌, refl, ap, sym, subst, ◌∙◌, ℕ, ◌<◌, ◌≤◌, ◌==◌, eqb, Bool, true, false, List, Option, Some, None, arith}
+use Rattle.std.specs.Prelude.{IfSome}
 use Rattle.std.proofs.lemmas.Bool.Decides.{nat_tests}
 use Rattle.pcl_base.specs.declared.event.Event.{Event}
 use Rattle.pcl_base.specs.declared.lock.Held.{Held}
@@ -10,23 +11,28 @@ use Rattle.pcl_base.specs.declared.tx.Mode.{Mode}
 use Rattle.pcl_base.specs.declared.tx.Mode.TheVariants.{Shared, Exclusive}
 use Rattle.pcl_base.specs.declared.tx.TxId.{TxId}
 use Rattle.node_rules.specs.AccessRule.{Granted, bring, granted, locked, write_of}
+use Rattle.node_rules.specs.EndRule.{is_own_kind}
+use Rattle.node_rules.specs.InstallRule.{owned_before}
+use Rattle.node_rules.specs.NodeState.{number_of, partition}
 use Rattle.node_rules.specs.OpenTxs.{held_by, is_open, mode_held, pending_of}
 use Rattle.node_rules.specs.OwnerRule.{told}
 use Rattle.node_rules.specs.Words.{covers}
 use Rattle.node_rules.specs.Work.{Differs, Goes, HomeWork, Outcome, Work, and_so, work_of_home}
 use Rattle.home_laws.specs.Homes.{is_right_kind}
 use Rattle.cluster_rules.specs.Clusters.{Cluster, last_view}
+use Rattle.moment_laws.specs.Looks.{asked_last}
 use Rattle.page_protocol.specs.Bytes.{Copy}
 use Rattle.page_protocol.specs.Homes.{Waits, accepting}
 use Rattle.page_protocol.specs.Invariant.{Counts}
-use Rattle.page_protocol.specs.State.{Asking, Ended, Fresh, Gone, Holding, HoldingAsks, Home, Page, Reading, ReadingAsks, Sent, bytes_of, told_copy, updn}
+use Rattle.page_protocol.specs.State.{Asking, Ended, Fresh, Gone, Holding, HoldingAsks, Home, Image, In, Page, Reading, ReadingAsks, Sent, bytes_of, told_copy, updn}
 use Rattle.page_protocol.specs.State as machine
 use Rattle.page_protocol.specs.Steps.{Reached, accepts, here, then}
 use Rattle.page_protocol.proofs.Keeps.{reached_holds}
 use Rattle.page_relation.specs.Homes.{Stands, StandsIn, held_stand, image_of, is_unborn, shared_stand, stand_of, wait_on}
 use Rattle.work_relation.specs.Events.{IsEntered}
 use Rattle.work_relation.specs.Keeping.{IsWorkOf, Leads}
-use Rattle.work_relation.specs.Landing.{Acts, land}
+use Rattle.work_relation.specs.Landing.{Acts, land, trace_of}
+use Rattle.work_relation.specs.Letting.{CalledBy}
 use Rattle.work_relation.proofs.Nodes.{at_node}
 use Rattle.work_relation.proofs.Storing.{IsHere, own_page}
 use Rattle.grant_relation.specs.Carrying.{CarryGoes, CarryLeads, HasOwnImage, MayCarry, OwnGrantGoes, OwnGrantLeads}
@@ -109,12 +115,39 @@ one_slot slot n m x is = ap (λ (b : Bool). machine.pick b x (slot n)) (let e : 
 pub other_slot : (slot : ℕ → Option Copy) (n m k : ℕ) (x : Option Copy) → m ≡ n → (k == n) ≡ false → updn slot m x k ≡ slot k
 other_slot slot n m k x is other = ap (λ (b : Bool). machine.pick b x (slot k)) (let e : eqb k m ≡ false = grind (arith, nat_tests, is, other) in e)
 
-module _ (c : Cluster) (e : Event) (n p : ℕ) (g : Sent) (k : Kind) (image : Option (List ℕ)) (w : Work) (a : Page) (h : IsHere c e n p w a) (may : MayCarry c e n p g k image w a) where
-  is_ready : IsReady p g.tx g.mode w.node.home
-  is_ready = ready p g.tx g.mode w.node.home may.home may.waits
+-- a grant without a right may be carried out, whatever the rights of the home are
+pub record MayAccept (c : Cluster) (e : Event) (n p : ℕ) (g : Sent) (k : Kind) (image : Option (List ℕ)) (w : Work) (a : Page) : Type 0 where
+  pub mine : g.tx.node ≡ n
+  pub ready : IsReady p g.tx g.mode w.node.home
+  pub asked : IfSome (pending_of w.node.home.txs g.tx) (λ (x : Pending). x.write ≡ asked_last g.tx (trace_of c e n w))
+  pub called : CalledBy n c.disk (work_of_home w)
+  pub config : w.node.home.config ≡ c.config
+  pub kind : is_own_kind k ≡ owned_before w.node.view (partition w.node.home.config p) (number_of w.node)
+  pub registered : is_right_kind k ≡ false
+  pub sent : In g a.sent
+  pub takes : a.reached n ≡ a.era
+  pub image_is : (bytes : List ℕ) → image ≡ Some bytes → g.word ≡ Image bytes
+  pub entered : IsEntered a
 
+may_accept : (c : Cluster) (e : Event) (n p : ℕ) (g : Sent) (k : Kind) (image : Option (List ℕ)) (w : Work) (a : Page) → MayCarry c e n p g k image w a → MayAccept c e n p g k image w a
+may_accept c e n p g k image w a may =
+    record {
+      mine = may.mine;
+      ready = ready p g.tx g.mode w.node.home may.home may.waits;
+      asked = may.asked;
+      called = may.called;
+      config = may.config;
+      kind = may.kind;
+      registered = may.registered;
+      sent = may.sent;
+      takes = may.takes;
+      image_is = may.image_is;
+      entered = may.entered;
+    }
+
+module _ (c : Cluster) (e : Event) (n p : ℕ) (g : Sent) (k : Kind) (image : Option (List ℕ)) (w : Work) (a : Page) (h : IsHere c e n p w a) (may : MayAccept c e n p g k image w a) where
   waits : Waits (a.home g.tx) g.mode
-  waits = waits_there c e n p g.tx g.mode w a h may.mine is_ready
+  waits = waits_there c e n p g.tx g.mode w a h may.mine may.ready
 
   takes : a.reached g.tx.node ≡ a.era
   takes = ap a.reached may.mine ∙ may.takes
@@ -137,7 +170,7 @@ module _ (c : Cluster) (e : Event) (n p : ℕ) (g : Sent) (k : Kind) (image : Op
   needs =
       record {
         mine = may.mine;
-        ready = is_ready;
+        ready = may.ready;
         asked = may.asked;
         called = may.called;
         config = may.config;
@@ -175,7 +208,7 @@ module _ (c : Cluster) (e : Event) (n p : ℕ) (g : Sent) (k : Kind) (image : Op
           let entry : a.entry ≡ a.now = granted_entry h.blank a h.reached g may.sent takes waits ((reached_holds h.blank a h.reached).kept_holds.dirty_served on) in
           subst (λ (y : Copy). y.version ≤ a.entry) now (omega (arith, entry))
 
-  carry_leads : (y : Granted) → granted g.tx (record { page = p; mode = g.mode; kind = k }) g.version image (work_of_home w) ≡ Goes y
+  pub carry_leads : (y : Granted) → granted g.tx (record { page = p; mode = g.mode; kind = k }) g.version image (work_of_home w) ≡ Goes y
       → Leads c e n p (λ x b. IsEntered b) a (told w y)
   unfolding accepting
   carry_leads y goes =
@@ -188,7 +221,7 @@ module _ (c : Cluster) (e : Event) (n p : ℕ) (g : Sent) (k : Kind) (image : Op
         known = done.entered accepting_entered;
       }
 
-  carry_goes : HasOwnImage p g image w → (q expected found : ℕ) → granted g.tx (record { page = p; mode = g.mode; kind = k }) g.version image (work_of_home w) ≡ Differs q expected found → ⊥
+  pub carry_goes : HasOwnImage p g image w → (q expected found : ℕ) → granted g.tx (record { page = p; mode = g.mode; kind = k }) g.version image (work_of_home w) ≡ Differs q expected found → ⊥
   unfolding granted
   carry_goes own q expected found differs = by (bring p g.version image (work_of_home w)) refl differs
     where
@@ -207,11 +240,11 @@ is_here c e n p blank w a acts low reached entered related =
 
 pub carry_leads_law : CarryLeads
 carry_leads_law c e n p g k image blank w a y acts low reached may related goes =
-    carry_leads c e n p g k image w a (is_here c e n p blank w a acts low reached may.entered related) may y goes
+    carry_leads c e n p g k image w a (is_here c e n p blank w a acts low reached may.entered related) (may_accept c e n p g k image w a may) y goes
 
 pub carry_goes_law : CarryGoes
 carry_goes_law c e n p g k image blank w a q expected found acts low reached may own related differs =
-    carry_goes c e n p g k image w a (is_here c e n p blank w a acts low reached may.entered related) may own q expected found differs
+    carry_goes c e n p g k image w a (is_here c e n p blank w a acts low reached may.entered related) (may_accept c e n p g k image w a may) own q expected found differs
 
 pub own_grant_leads_law : OwnGrantLeads
 own_grant_leads_law c e n p g blank w x a acts low reached may related goes =

@@ -10,3 +10,11 @@ pub mod Homing
 pub mod Filling
 pub mod Carrying
 pub mod Accepting
+pub mod Sharing
+pub mod Holding
+pub mod Taking
+pub mod Shelving
+pub mod Coming
+pub mod Arrived
+pub mod Reaching
+pub mod Arriving

@@ -1,3 +1,4 @@
 pub mod Going
 pub mod Performing
 pub mod Carrying
+pub mod Arriving

@@ -6,9 +6,11 @@
 //! Each law is the clause of a function that does nothing.
 
 mod accesses;
+mod arrivals;
 mod grants;
 
 pub use accesses::{
     held_may_access, links_go_on, perform_is_step, performs_elsewhere, tables_go_on,
 };
+pub use arrivals::{grant_goes_on, grant_is_kept};
 pub use grants::{carry_goes, carry_leads, own_grant_goes, own_grant_leads};
