@@ -1,0 +1,11 @@
+pub mod Machine
+pub mod Tables
+pub mod Owners
+pub mod Ending
+pub mod Own
+pub mod Cases
+pub mod Stored
+pub mod Putting
+pub mod Midway
+pub mod Elsewhere
+pub mod OwnEnds
