@@ -9,3 +9,5 @@ pub mod Putting
 pub mod Midway
 pub mod Elsewhere
 pub mod OwnEnds
+pub mod Senders
+pub mod Untold
