@@ -11,3 +11,4 @@ pub mod Elsewhere
 pub mod OwnEnds
 pub mod Senders
 pub mod Untold
+pub mod Releasing

@@ -1,5 +1,5 @@
 -- What is known of a work inside a step, whatever page, and what settling keeps.
-use Rattle.std.specs.Prelude.{◌≡◌, ℕ, ◌≤◌, ◌<◌, ◌==◌, false, Some, IfSome}
+use Rattle.std.specs.Prelude.{◌≡◌, ℕ, ◌≤◌, ◌==◌, false, List, Some, IfSome}
 use Rattle.pcl_base.specs.declared.event.Event.{Event}
 use Rattle.pcl_base.specs.declared.lock.Pending.{Pending}
 use Rattle.pcl_base.specs.declared.tx.TxId.{TxId}
@@ -7,12 +7,14 @@ use Rattle.run_rules.specs.Views.{View}
 use Rattle.node_rules.specs.NodeState.{NodeState}
 use Rattle.node_rules.specs.OpenTxs.{pending_of}
 use Rattle.node_rules.specs.OwnerRule.{settle_page}
-use Rattle.node_rules.specs.Work.{Work, Goes, work_of_home}
+use Rattle.node_rules.specs.Work.{Work, Goes, Differs, work_of_home}
 use Rattle.node_laws.proofs.Works.{Base, IsBase, IsGood}
 use Rattle.cluster_rules.specs.Clusters.{Cluster, node_at, view_of_epoch, last_view}
 use Rattle.moment_laws.specs.Looks.{asked_last}
+use Rattle.page_protocol.specs.State.{Page}
+use Rattle.page_protocol.specs.Steps.{Reached}
 use Rattle.work_relation.specs.Events.{IsEntered}
-use Rattle.work_relation.specs.Keeping.{Keeps}
+use Rattle.work_relation.specs.Keeping.{IsWorkOf, Keeps}
 use Rattle.work_relation.specs.Landing.{trace_of}
 use Rattle.work_relation.specs.Letting.{CalledBy}
 use Rattle.work_relation.specs.Unseen.{IsUnseen}
@@ -40,3 +42,8 @@ SettleKeeps b c e n p q = Keeps c e n p (λ w a. IsMidway b c e n w × IsEntered
 -- settling another page isn't seen
 abbrev pub SettleElsewhere : Base → Cluster → Event → ℕ → ℕ → ℕ → Type 0
 SettleElsewhere b c e n p q = (w x : Work) → (q == p) ≡ false → IsMidway b c e n w → settle_page q w ≡ Goes x → IsUnseen c e n p w x × IsMidway b c e n x
+
+-- nothing differs where page p of a related work is settled
+abbrev pub SettleGoes : Base → Cluster → Event → ℕ → ℕ → Type 0
+SettleGoes b c e n p =
+    (blank : List ℕ) (w : Work) (a : Page) (q x y : ℕ) → IsMidway b c e n w → IsWorkOf c e n p w a → IsEntered a → Reached blank a → settle_page p w ≡ Differs q x y → ⊥
