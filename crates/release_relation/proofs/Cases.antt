@@ -36,7 +36,7 @@ use Rattle.work_relation.proofs.Nodes.{at_other}
 use Rattle.work_relation.proofs.Storing.{copies_by, none_of}
 use Rattle.release_relation.specs.Owing.{ended_as, IsUntold}
 use Rattle.release_relation.proofs.Ending.{entered, ends_as}
-use Rattle.release_relation.proofs.Own.{IsTabled, is_tabled, served_entry, beside_served, beside_rebuilt}
+use Rattle.release_relation.proofs.OwnTables.{IsTabled, is_tabled, served_entry, beside_served, beside_rebuilt}
 use Rattle.release_relation.proofs.Owners.{HasOwn}
 use Rattle.release_relation.proofs.Tables.{served_own, rebuilt_own}
 

@@ -2,7 +2,7 @@ pub mod Machine
 pub mod Tables
 pub mod Owners
 pub mod Ending
-pub mod Own
+pub mod OwnTables
 pub mod Cases
 pub mod Stored
 pub mod Putting
@@ -12,3 +12,4 @@ pub mod OwnEnds
 pub mod Senders
 pub mod Untold
 pub mod Releasing
+pub mod Laws

@@ -137,19 +137,19 @@ module _ (c : Cluster) (e : Event) (n p : ℕ) (s : NodeState) (w : Work) (tb : 
 
 -- ---- the operation
 
-own_goes : (q : ℕ) (t : TxId) (x : Ending) (tb : LockTable) (w : Work) → x.page ≡ q → table_of w.node q ≡ Some tb → tell_end t x w ≡ settle_page q (own_told q t x.change tb w)
+pub own_goes : (q : ℕ) (t : TxId) (x : Ending) (tb : LockTable) (w : Work) → x.page ≡ q → table_of w.node q ≡ Some tb → tell_end t x w ≡ settle_page q (own_told q t x.change tb w)
 unfolding tell_end enter
 own_goes q t x tb w at there =
     ap (λ (o : Option LockTable). tell_in t x o w) (ap (table_of w.node) at ∙ there)
     ∙ ap (λ (k : ℕ). enter_in (end_in t (change_if_served tb.serving x.change)) k (table_of w.node k) w) at
     ∙ ap (λ (o : Option LockTable). enter_in (end_in t (change_if_served tb.serving x.change)) q o w) there
 
-module _ (c : Cluster) (e : Event) (n p : ℕ) (s : NodeState) (acts : Acts c n) (up : node_at c n ≡ Some s) (low : p < c.config.pages) where
+module _ (c : Cluster) (e : Event) (n p : ℕ) (s : NodeState) (acts : Acts c n) (up : node_at c n ≡ Some s) where
   -- an own end of the page
-  pub own_end_keeps_law : (t : TxId) (x : Ending) (tb : LockTable) → x.page ≡ p → SettleKeeps (base_of s) c e n p p
+  pub own_end_keeps : p < c.config.pages → (t : TxId) (x : Ending) (tb : LockTable) → x.page ≡ p → SettleKeeps (base_of s) c e n p p
       → Keeps c e n p (λ w a. IsMidway (base_of s) c e n w × OwesEnd c e n p t x.change w a × (table_of w.node p ≡ Some tb)) (tell_end t x)
       (λ w a. IsMidway (base_of s) c e n w × IsEntered a)
-  own_end_keeps_law t x tb at settle blank w y a reached is before goes =
+  own_end_keeps low t x tb at settle blank w y a reached is before goes =
       leads_on c e n p (λ w a. IsMidway (base_of s) c e n w × IsEntered a) a told.page y told.run
       (settle blank (own_told p t x.change tb w) y told.page (reached_on blank a told.page reached told.run) told.related
       (end_midway (base_of s) c e n p tb t (rules_version (change_if_served tb.serving x.change)) w (subst (λ (k : Sizes). p < k.pages) (sym before.0.config) low) before.2 before.0, told.known)
@@ -162,9 +162,9 @@ module _ (c : Cluster) (e : Event) (n p : ℕ) (s : NodeState) (acts : Acts c n)
       told = own_ends c e n p s w tb a blank acts up own reached is t x.change before.1
 
   -- an own end of another page
-  pub own_end_elsewhere_law : (t : TxId) (x : Ending) (tb : LockTable) (w y : Work) → (x.page == p) ≡ false → x.page < c.config.pages → SettleElsewhere (base_of s) c e n p x.page
+  pub own_end_elsewhere : (t : TxId) (x : Ending) (tb : LockTable) (w y : Work) → (x.page == p) ≡ false → x.page < c.config.pages → SettleElsewhere (base_of s) c e n p x.page
       → IsMidway (base_of s) c e n w → table_of w.node x.page ≡ Some tb → tell_end t x w ≡ Goes y → IsUnseen c e n p w y × IsMidway (base_of s) c e n y
-  own_end_elsewhere_law t x tb w y other below settle mid there goes =
+  own_end_elsewhere t x tb w y other below settle mid there goes =
       let own : HasOwn c n x.page s w tb = has_own c n x.page s w tb acts.cluster up mid.base mid.good there in
       let ended : IsMidway (base_of s) c e n (own_told x.page t x.change tb w) =
       end_midway (base_of s) c e n x.page tb t (rules_version (change_if_served tb.serving x.change)) w (subst (λ (k : Sizes). x.page < k.pages) (sym mid.config) below) there mid in

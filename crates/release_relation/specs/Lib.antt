@@ -1,3 +1,4 @@
 pub mod Owing
 pub mod Midway
 pub mod Releasing
+pub mod OwnEnds
