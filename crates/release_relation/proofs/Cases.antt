@@ -1,8 +1,7 @@
 -- An end at the own table, case by case: the machine's step, and the relation after it.
-use Rattle.std.proofs.Common.{◌≡◌, ◌≢◌, refl, ap, sym, subst, ◌∙◌, ℕ, suc, ◌+◌, ◌<◌, ◌≤◌, ◌==◌, ◌&&◌, Bool, true, false, List, Option, Some, None, arith, inl, inr}
+use Rattle.std.proofs.Common.{◌≡◌, ◌≢◌, refl, ap, sym, subst, ◌∙◌, ℕ, ◌<◌, ◌≤◌, ◌==◌, ◌&&◌, Bool, true, false, List, Option, Some, None, arith}
 use Rattle.std.proofs.lemmas.Bool.Decides.{nat_tests}
 use Rattle.pcl_base.specs.declared.event.Event.{Event}
-use Rattle.pcl_base.specs.declared.tx.Mode.{Mode}
 use Rattle.pcl_base.specs.declared.tx.Mode.TheVariants.{Exclusive}
 use Rattle.pcl_base.specs.declared.tx.TxId.{TxId}
 use Rattle.node_rules.specs.BufferRule.{copy_at, dirty}
@@ -12,14 +11,14 @@ use Rattle.node_rules.specs.LockTable.{LockTable, entry_at, put_entry}
 use Rattle.node_rules.specs.NodeState.{HomeState, NodeState, partition}
 use Rattle.node_rules.specs.Work.{HomeWork, Work, work_of_home}
 use Rattle.cluster_rules.specs.Clusters.{Cluster, node_at}
-use Rattle.entry_laws.specs.Steps.{IsEntryOf, IsStepTo}
+use Rattle.entry_laws.specs.Steps.{IsStepTo}
 use Rattle.entry_laws.proofs.Stepped.{release_is_step_law, change_is_step_law}
 use Rattle.era_laws.specs.Eras.{era_in}
 use Rattle.look_laws.specs.Parts.{SameBesideCopies}
 use Rattle.look_laws.proofs.Alike.{beside_self}
 use Rattle.page_protocol.specs.Authority.{releasing, releasing_change, releasing_to_disk}
 use Rattle.page_protocol.specs.Bytes.{Copy}
-use Rattle.page_protocol.specs.Invariant.{EndsOk, Inv}
+use Rattle.page_protocol.specs.Invariant.{EndsOk}
 use Rattle.page_protocol.specs.State.{Ended, Page, updn}
 use Rattle.page_protocol.specs.Steps.{Step, Reached, here, then, releases_early}
 use Rattle.page_protocol.proofs.Basics.{updn_same, updn_other}
@@ -30,7 +29,7 @@ use Rattle.page_relation.specs.Tables.{TableIs}
 use Rattle.storage_laws.specs.Looks.{IsStored}
 use Rattle.work_relation.specs.Events.{IsEntered}
 use Rattle.work_relation.specs.Keeping.{IsWorkOf, Leads}
-use Rattle.work_relation.specs.Landing.{land, Acts, disk_of}
+use Rattle.work_relation.specs.Landing.{land, Acts}
 use Rattle.work_relation.proofs.Framing.{copies_stay_law}
 use Rattle.work_relation.proofs.Nodes.{at_other}
 use Rattle.work_relation.proofs.Storing.{copies_by, none_of}

@@ -1,23 +1,20 @@
 -- The change of a release of another page, seen from this one: copies may leave for it.
-use Rattle.std.proofs.Common.{◌≡◌, ◌≢◌, refl, ap, sym, subst, ◌∙◌, ℕ, ◌<◌, ◌==◌, Bool, true, false, List, [], ◌∷◌, ◌++◌, Option, Some, None, arith}
+use Rattle.std.proofs.Common.{◌≡◌, ◌≢◌, refl, ap, sym, subst, ◌∙◌, ℕ, ◌<◌, ◌==◌, Bool, true, false, List, [], ◌∷◌, Option, Some, None, arith}
 use Rattle.std.proofs.lemmas.Bool.Decides.{nat_tests}
-use Rattle.pcl_base.specs.Limits.{Sizes}
 use Rattle.pcl_base.specs.declared.event.Event.{Event}
 use Rattle.pcl_base.specs.declared.message.Change.{Change}
-use Rattle.run_rules.specs.Disk.{Disk}
 use Rattle.text_rules.specs.StoredPage.{stored_bytes}
-use Rattle.node_rules.specs.BufferRule as buffer
 use Rattle.node_rules.specs.BufferRule.{copy_at}
-use Rattle.node_rules.specs.DiskCalls.{WritePage, all_done}
+use Rattle.node_rules.specs.DiskCalls.{WritePage}
 use Rattle.node_rules.specs.LockRule.{LockEntry}
 use Rattle.node_rules.specs.LockTable.{LockTable, put_entry}
-use Rattle.node_rules.specs.NodeState.{HomeState, partition, table_at}
+use Rattle.node_rules.specs.NodeState.{partition, table_at}
 use Rattle.node_rules.specs.OwnerRule.{dirty_copy, put_change, put_taken, with_table}
 use Rattle.node_rules.specs.Words.{pick}
 use Rattle.node_rules.specs.Work.{HomeWork, Work, work_of_home, with_home_work}
 use Rattle.home_laws.specs.Homes.{IsHome}
 use Rattle.cluster_rules.specs.Clusters.{Cluster}
-use Rattle.look_laws.specs.Buffers.{LetsGo, stored_copy}
+use Rattle.look_laws.specs.Buffers.{stored_copy}
 use Rattle.look_laws.specs.Ends.{HasChange, kept, stored}
 use Rattle.look_laws.specs.Parts.{SameLife}
 use Rattle.look_laws.proofs.Alike.{life_self}

@@ -1,5 +1,5 @@
 -- A work once an end has come to the own table, related to the machine's state then.
-use Rattle.std.proofs.Common.{◌≡◌, ◌≢◌, refl, ap, sym, subst, ◌∙◌, ℕ, ◌==◌, Bool, true, false, List, Option, Some, None}
+use Rattle.std.proofs.Common.{◌≡◌, ◌≢◌, refl, ap, sym, subst, ◌∙◌, ℕ, ◌==◌, Bool, true, false, List, Option, Some}
 use Rattle.std.specs.List.{AllByRecursion}
 use Rattle.pcl_base.specs.Limits.{Sizes}
 use Rattle.pcl_base.specs.declared.event.Event.{Event}

@@ -1,17 +1,12 @@
 -- The laws of own ends.
-use Rattle.std.proofs.Common.{◌≡◌, refl, sym, subst, ◌∙◌, ℕ, ◌<◌, Some}
+use Rattle.std.proofs.Common.{refl, sym, subst, ◌∙◌, ◌<◌}
 use Rattle.pcl_base.specs.Limits.{Sizes}
-use Rattle.pcl_base.specs.declared.tx.TxId.{TxId}
 use Rattle.node_rules.specs.NodeState.{partition}
 use Rattle.node_rules.specs.OwnerRule.{change_if_served, version_of_change as rules_version}
-use Rattle.node_rules.specs.Work.{Work}
 use Rattle.node_laws.proofs.Bases.{base_of}
-use Rattle.cluster_rules.specs.Clusters.{Cluster, node_at}
 use Rattle.work_relation.specs.Events.{IsEntered}
 use Rattle.work_relation.specs.Keeping.{Leads}
 use Rattle.work_relation.proofs.Kept.{reached_on}
-use Rattle.work_relation.proofs.Started.{acting}
-use Rattle.release_relation.specs.Midway.{IsMidway}
 use Rattle.release_relation.specs.OwnEnds.{OwnEndKeeps, OwnEndElsewhere, NoOwnEndDiffers, UntoldStays, OpenIsUnreleased, OwnIsUnreported}
 use Rattle.release_relation.proofs.Midway.{end_midway}
 use Rattle.release_relation.proofs.Owners.{has_own, has_table_owns, partition_low}

@@ -16,7 +16,7 @@ use Rattle.node_rules.specs.NodeState.{NodeState}
 use Rattle.node_rules.specs.OpenTxs.{held_by, pending_of, is_open}
 use Rattle.node_rules.specs.Words.{same_tx}
 use Rattle.node_laws.proofs.Lists.{all_weaker}
-use Rattle.cluster_rules.specs.Clusters.{Cluster, node_at, last_view, version_of_change}
+use Rattle.cluster_rules.specs.Clusters.{Cluster, node_at, last_view}
 use Rattle.entry_laws.proofs.Stepped.{one_test}
 use Rattle.entry_laws.proofs.Words.{same_swap}
 use Rattle.era_laws.specs.Eras.{era_at}

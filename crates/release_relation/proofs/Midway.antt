@@ -10,18 +10,16 @@ use Rattle.pcl_base.specs.declared.tx.TxId.{TxId}
 use Rattle.text_rules.specs.MessageBytes.{IsPage, IsChange}
 use Rattle.node_rules.specs.AccessRule.{make_room, on_pool}
 use Rattle.node_rules.specs.BufferRule.{has_slot, free_frames, place}
-use Rattle.node_rules.specs.LockRule.{LockEntry, end_tx}
+use Rattle.node_rules.specs.LockRule.{end_tx}
 use Rattle.node_rules.specs.LockTable.{LockTable, entry_at, put_entry}
 use Rattle.node_rules.specs.NodeState.{HomeState, table_of}
 use Rattle.node_rules.specs.OpenTxs.{OpenTxs, pending_of}
 use Rattle.node_rules.specs.OwnerRule.{has_room, into_slot, put_change, put_taken, with_table}
 use Rattle.node_rules.specs.Words.{pick}
 use Rattle.node_rules.specs.Work.{HomeWork, Work, work_of_home, with_home_work, write_page}
-use Rattle.home_laws.specs.Homes.{IsHome}
 use Rattle.home_laws.proofs.Puts.{put_change_is_sound_law}
 use Rattle.home_laws.proofs.Room.{room_home}
 use Rattle.step_laws.proofs.Homes.{IsSame}
-use Rattle.node_laws.specs.Nodes.{IsEntry}
 use Rattle.node_laws.proofs.Entries.{end_is}
 use Rattle.node_laws.proofs.Pages.{entry_good, entry_there}
 use Rattle.node_laws.proofs.Stored.{AreStored, Fits, change_stored, home_fits}

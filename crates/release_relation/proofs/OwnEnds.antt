@@ -1,30 +1,29 @@
 -- The end of a transaction at its own node's table.
-use Rattle.std.proofs.Common.{◌≡◌, ◌≢◌, refl, ap, sym, subst, ◌∙◌, ℕ, suc, ◌+◌, ◌<◌, ◌≤◌, ◌==◌, ◌&&◌, Bool, true, false, List, Option, Some, None, is_some, arith, inl, inr, eqb-true}
+use Rattle.std.proofs.Common.{◌≡◌, refl, ap, sym, subst, ◌∙◌, ℕ, ◌+◌, ◌<◌, ◌≤◌, ◌==◌, ◌&&◌, Bool, true, false, List, Option, Some, None, is_some, arith, inl, inr, eqb-true}
 use Rattle.std.specs.Prelude.{eqb, ◌⊎◌}
 use Rattle.std.proofs.lemmas.Bool.Decides.{nat_tests}
 use Rattle.pcl_base.specs.Limits.{Sizes}
 use Rattle.pcl_base.specs.declared.event.Event.{Event}
 use Rattle.pcl_base.specs.declared.message.Change.{Change}
 use Rattle.pcl_base.specs.declared.tx.TxId.{TxId}
-use Rattle.node_rules.specs.BufferRule.{copy_at, dirty}
-use Rattle.node_rules.specs.DiskCalls.{all_done}
+use Rattle.node_rules.specs.BufferRule.{dirty}
 use Rattle.node_rules.specs.EndRule.{Ending}
 use Rattle.node_rules.specs.LockRule.{LockEntry, takes_change}
 use Rattle.node_rules.specs.LockTable.{LockTable, entry_at, put_entry}
 use Rattle.node_rules.specs.NodeState.{NodeState, partition, table_at, table_of, is_serving}
 use Rattle.node_rules.specs.OwnerRule.{change_if_served, end_in, enter, enter_in, settle_page, tell_end, tell_in, with_table, version_of_change as rules_version}
-use Rattle.node_rules.specs.Work.{Work, Outcome, Goes, work_of_home}
+use Rattle.node_rules.specs.Work.{Work, Goes, work_of_home}
 use Rattle.node_laws.proofs.Bases.{base_of}
 use Rattle.cluster_rules.specs.Clusters.{Cluster, node_at, version_of_change}
 use Rattle.entry_laws.proofs.Looked.{next_change}
 use Rattle.era_laws.specs.Eras.{era_in}
 use Rattle.look_laws.proofs.Alike.{beside_self}
 use Rattle.page_protocol.specs.Bytes.{Copy}
-use Rattle.page_protocol.specs.Invariant.{Inv, Lags}
+use Rattle.page_protocol.specs.Invariant.{Lags}
 use Rattle.page_protocol.specs.State.{Ended, Page}
 use Rattle.page_protocol.specs.Steps.{Reached}
 use Rattle.page_protocol.proofs.Keeps.{reached_holds}
-use Rattle.page_relation.specs.Looks.{copy_in, dirty_in, dirty_of}
+use Rattle.page_relation.specs.Looks.{dirty_in, dirty_of}
 use Rattle.page_relation.specs.Tables.{TableIs, serves_in}
 use Rattle.work_relation.specs.Events.{IsEntered}
 use Rattle.work_relation.specs.Keeping.{IsWorkOf, Leads, Keeps}

@@ -12,13 +12,12 @@ use Rattle.entry_laws.specs.Steps.{IsEntryOf}
 use Rattle.era_laws.specs.Eras.{era_in}
 use Rattle.page_protocol.specs.Bytes.{Copy}
 use Rattle.page_protocol.specs.State.{Ended, Page}
-use Rattle.page_relation.specs.Relation.{NodesAre, TablesAre}
-use Rattle.page_relation.specs.Tables.{IsServed, TableIs, TableIn, TableOf, ReachedBy, ReachedIn}
+use Rattle.page_relation.specs.Tables.{TableIs, TableIn, TableOf, ReachedBy, ReachedIn}
 use Rattle.work_relation.specs.Keeping.{IsWorkOf}
 use Rattle.work_relation.specs.Landing.{land, Acts}
 use Rattle.work_relation.proofs.Nodes.{at_node}
 use Rattle.release_relation.specs.Owing.{ended_as}
-use Rattle.release_relation.proofs.Owners.{IsOwner, HasOwn, has_table_owns, one_owner, partition_low}
+use Rattle.release_relation.proofs.Owners.{HasOwn, has_table_owns, one_owner, partition_low}
 use Rattle.release_relation.proofs.Tables.{served_beside, rebuilt_beside}
 
 reached_view : (d : Cluster) (q era r : ℕ) (s : NodeState) (v : View) → s.view ≡ Some v → ReachedBy d q era s s.view r → (r ≡ era_in s.view q) × (era ≤ r)

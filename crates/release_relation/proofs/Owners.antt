@@ -1,8 +1,7 @@
 -- The owner of a partition in an era.
-use Rattle.std.proofs.Common.{◌≡◌, refl, ap, sym, subst, ◌∙◌, ℕ, ◌<◌, ◌==◌, Bool, true, false, Option, Some, None, is_some, arith, eqb-true, mod-lt}
-use Rattle.std.specs.Prelude.{◌≤◌}
+use Rattle.std.proofs.Common.{◌≡◌, refl, ap, sym, subst, ◌∙◌, ℕ, ◌<◌, true, Option, Some, None, is_some, arith, eqb-true, mod-lt}
 use Rattle.pcl_base.specs.Limits.{Sizes}
-use Rattle.run_rules.specs.Views.{View, owner_of, since_of}
+use Rattle.run_rules.specs.Views.{View, owner_of}
 use Rattle.node_rules.specs.InstallRule.{owned_before}
 use Rattle.node_rules.specs.LockTable.{LockTable}
 use Rattle.node_rules.specs.NodeState.{NodeState, number_of, partition, table_at, table_of}

@@ -1,25 +1,23 @@
 -- The change of a release at the table of its page: the copy goes to its place and the end into the entry.
-use Rattle.std.proofs.Common.{◌≡◌, ◌≢◌, refl, ap, sym, subst, ◌∙◌, ℕ, ◌<◌, ◌≤◌, ◌^◌, ◌==◌, Bool, true, false, List, [], ◌∷◌, ◌++◌, Option, Some, None, arith}
+use Rattle.std.proofs.Common.{◌≡◌, refl, ap, sym, subst, ◌∙◌, ℕ, ◌<◌, ◌≤◌, ◌^◌, Bool, true, List, [], ◌∷◌, ◌++◌, Option, Some, arith}
 use Rattle.pcl_base.specs.declared.event.Event.{Event}
 use Rattle.pcl_base.specs.declared.message.Change.{Change}
 use Rattle.pcl_base.specs.declared.tx.TxId.{TxId}
 use Rattle.run_rules.specs.Disk.{Disk}
 use Rattle.text_rules.specs.StoredPage.{stored_bytes}
-use Rattle.node_rules.specs.BufferRule as buffer
-use Rattle.node_rules.specs.BufferRule.{copy_at, copy_of_slot, has_slot, is_dirty_copy, slot_at}
+use Rattle.node_rules.specs.BufferRule.{copy_at, copy_of_slot, is_dirty_copy, slot_at}
 use Rattle.node_rules.specs.DiskCalls.{WritePage, all_done}
 use Rattle.node_rules.specs.LockRule.{end_tx, takes_change}
 use Rattle.node_rules.specs.LockTable.{LockTable, entry_at}
 use Rattle.node_rules.specs.NodeState.{NodeState}
 use Rattle.node_rules.specs.OwnerRule.{dirty_copy, put_change}
 use Rattle.node_rules.specs.Words.{pick}
-use Rattle.node_rules.specs.Work.{HomeWork, Work, work_of_home}
+use Rattle.node_rules.specs.Work.{Work, work_of_home}
 use Rattle.home_laws.specs.Homes.{IsHome}
 use Rattle.home_laws.proofs.Tests.{none_there, number_same}
 use Rattle.cluster_rules.specs.Clusters.{Cluster, node_at}
-use Rattle.look_laws.specs.Buffers.{LetsGo, stored_copy}
+use Rattle.look_laws.specs.Buffers.{stored_copy}
 use Rattle.look_laws.specs.Ends.{HasChange, kept, stored}
-use Rattle.look_laws.specs.Parts.{SameBesideCopies}
 use Rattle.look_laws.proofs.Alike.{beside_then}
 use Rattle.look_laws.proofs.Copies.{lets_beside}
 use Rattle.look_laws.proofs.Turning.{change_is_seen_law}
@@ -30,10 +28,10 @@ use Rattle.page_protocol.specs.Steps.{Reached}
 use Rattle.page_protocol.specs.Storage.{flushing}
 use Rattle.page_protocol.proofs.Keeps.{reached_holds}
 use Rattle.page_relation.specs.Looks.{copy_in, slot_in, slot_of}
-use Rattle.storage_laws.specs.Looks.{IsStored, page_of}
+use Rattle.storage_laws.specs.Looks.{IsStored}
 use Rattle.work_relation.specs.Events.{IsEntered}
 use Rattle.work_relation.specs.Keeping.{IsWorkOf, Leads}
-use Rattle.work_relation.specs.Landing.{land, Acts, disk_of}
+use Rattle.work_relation.specs.Landing.{Acts}
 use Rattle.work_relation.specs.Letting.{CalledBy}
 use Rattle.work_relation.proofs.Nodes.{at_node}
 use Rattle.work_relation.proofs.Storing.{flushing_stores, has_page}

@@ -12,19 +12,19 @@ use Rattle.pcl_base.specs.declared.message.Release.{Release}
 use Rattle.pcl_base.specs.declared.reply.Reason.TheVariants as reason
 use Rattle.pcl_base.specs.declared.tx.TxId.{TxId}
 use Rattle.run_rules.specs.Views.{View}
-use Rattle.text_rules.specs.MessageBytes.{IsBody, IsChange, IsPage}
-use Rattle.node_rules.specs.LockRule.{end_tx, takes_change}
+use Rattle.text_rules.specs.MessageBytes.{IsBody, IsChange}
+use Rattle.node_rules.specs.LockRule.{takes_change}
 use Rattle.node_rules.specs.LockTable.{LockTable, entry_at, put_entry}
 use Rattle.node_rules.specs.NodeState.{NodeState, Deliver, number_of, partition, table_at, table_of}
 use Rattle.node_rules.specs.NodeStep.{do_event, judge_in, partition_of, work_off}
-use Rattle.node_rules.specs.OwnerRule.{change_if_served, end_in, enter, enter_in, on_release, on_release_in, put_taken, settle_page, take_release, with_table, version_of_change as rules_version}
+use Rattle.node_rules.specs.OwnerRule.{change_if_served, end_in, enter, enter_in, on_release, on_release_in, put_taken, settle_page, with_table, version_of_change as rules_version}
 use Rattle.node_rules.specs.Refusals.{refusal, refuse_if}
-use Rattle.node_rules.specs.Work.{Work, Outcome, Goes, Differs, work_of_home}
+use Rattle.node_rules.specs.Work.{Work, Goes, Differs, work_of_home}
 use Rattle.home_laws.specs.Homes.{IsHome}
 use Rattle.node_laws.proofs.Bases.{base_of}
 use Rattle.cluster_rules.specs.Clusters.{Cluster, node_at, last_view, version_of_change}
 use Rattle.cluster_rules.specs.ClusterStep.{step}
-use Rattle.cluster_rules.specs.Links.{link_at, tail_of}
+use Rattle.cluster_rules.specs.Links.{link_at}
 use Rattle.cluster_laws.specs.Handed.{IsHanded}
 use Rattle.cluster_laws.specs.Sound.{IsCluster, IsOnLink}
 use Rattle.page_protocol.specs.State.{Ended, Page}

@@ -1,7 +1,6 @@
 -- From whom and to whom what tells an end or reports it comes.
-use Rattle.std.proofs.Common.{◌≡◌, ◌≢◌, refl, ap, sym, subst, ◌∙◌, ℕ, suc, ◌<◌, ◌≤◌, ◌==◌, ◌&&◌, cond, Bool, true, false, List, [], ◌∷◌, ◌++◌, length, Option, Some, None, arith, eqb-true}
+use Rattle.std.proofs.Common.{◌≡◌, refl, ap, sym, subst, ◌∙◌, ℕ, suc, ◌<◌, ◌≤◌, ◌&&◌, cond, Bool, true, false, List, [], ◌∷◌, length, Option, Some, arith, eqb-true}
 use Rattle.std.specs.List.{AllByRecursion, filter}
-use Rattle.std.proofs.lemmas.Bool.Decides.{nat_tests}
 use Rattle.pcl_base.specs.declared.event.Event.{Event}
 use Rattle.pcl_base.specs.declared.message.Body.{Body}
 use Rattle.pcl_base.specs.declared.message.Body.TheVariants as body
@@ -10,17 +9,17 @@ use Rattle.pcl_base.specs.declared.reply.Reply.{Reply}
 use Rattle.pcl_base.specs.declared.tx.TxId.{TxId}
 use Rattle.run_rules.specs.Views.{View, owner_of, since_of}
 use Rattle.node_rules.specs.NodeState.{NodeState, NodeEvent, partition}
-use Rattle.node_rules.specs.Words.{pick, same_tx}
+use Rattle.node_rules.specs.Words.{pick}
 use Rattle.home_laws.proofs.Tests.{tx_equal}
 use Rattle.node_laws.proofs.Lists.{all_weaker}
 use Rattle.cluster_rules.specs.Clusters.{Cluster, node_at, view_of_epoch, version_of_change}
 use Rattle.cluster_rules.specs.ClusterStep.{is_taken}
 use Rattle.cluster_rules.specs.Links.{link_at, tail_of}
 use Rattle.cluster_laws.specs.Handed.{IsHanded}
-use Rattle.cluster_laws.specs.Sound.{IsCluster, IsOnLink}
+use Rattle.cluster_laws.specs.Sound.{IsCluster}
 use Rattle.era_laws.specs.Counts.{counts_in}
 use Rattle.era_laws.specs.Eras.{era_at, owner_at}
-use Rattle.era_laws.proofs.Ages.{eras_have_one_owner_law, eras_are_reached_law, owner_is, era_is}
+use Rattle.era_laws.proofs.Ages.{eras_have_one_owner_law, owner_is, era_is}
 use Rattle.link_laws.specs.Coming.{speaks_of, is_coming, coming, delivers}
 use Rattle.link_laws.specs.Orders.{AreOrdered, is_report, how_many}
 use Rattle.page_protocol.specs.State.{Ended, Page}

@@ -1,5 +1,5 @@
 -- What a change that is put at its place leaves of what is stored.
-use Rattle.std.proofs.Common.{◌≡◌, ◌≢◌, refl, ap, sym, subst, ◌∙◌, ℕ, ◌<◌, ◌^◌, ◌==◌, Bool, true, false, List, [], ◌∷◌, ◌++◌, slice_index_or, slice_set, Option, Some, None, arith}
+use Rattle.std.proofs.Common.{◌≡◌, refl, ap, sym, subst, ◌∙◌, ℕ, ◌==◌, Bool, true, false, List, [], ◌∷◌, ◌++◌, slice_index_or, slice_set, Option, Some, None, arith}
 use Rattle.std.proofs.lemmas.Bool.Decides.{nat_tests}
 use Rattle.pcl_base.specs.Limits.{Sizes}
 use Rattle.pcl_base.specs.declared.message.Change.{Change}
@@ -15,7 +15,7 @@ use Rattle.node_rules.specs.Work.{HomeWork}
 use Rattle.node_laws.proofs.Lists.{set_look}
 use Rattle.call_laws.specs.Calls.{BeginsWith}
 use Rattle.call_laws.proofs.Written.{begun, pushed as pushed_call, changed_writes}
-use Rattle.look_laws.specs.Buffers.{HasLeft, IsAlike, LetsGo, all, one, stored_copy}
+use Rattle.look_laws.specs.Buffers.{HasLeft, LetsGo, all, one, stored_copy}
 use Rattle.page_protocol.specs.Bytes.{Copy, Ranges}
 use Rattle.storage_laws.specs.Looks.{AreRising, IsStored, copy_on, copy_read, entries_at, ranges_in}
 use Rattle.work_relation.specs.Letting.{CalledBy}

@@ -1,5 +1,5 @@
 -- The tables once an end has come to one of them.
-use Rattle.std.proofs.Common.{◌≡◌, ◌≢◌, refl, ap, sym, subst, ◌∙◌, ℕ, suc, zero, ◌<◌, ◌==◌, ◌&&◌, not, cond, Bool, true, false, List, [], ◌∷◌, length, slice_index_or, slice_set, Option, Some, None, is_some, arith}
+use Rattle.std.proofs.Common.{◌≡◌, ◌≢◌, refl, ap, sym, subst, ◌∙◌, ℕ, suc, zero, ◌<◌, ◌==◌, not, cond, Bool, true, false, List, [], ◌∷◌, length, slice_index_or, slice_set, Option, Some, None, is_some, arith}
 use Rattle.std.specs.List.{AllByRecursion, filter}
 use Rattle.pcl_base.specs.declared.event.Event.{Event}
 use Rattle.pcl_base.specs.declared.lock.RightMark.{RightMark}
@@ -9,7 +9,7 @@ use Rattle.pcl_base.specs.declared.tx.TxId.{TxId}
 use Rattle.run_rules.specs.Views.{View}
 use Rattle.node_rules.specs.LockRule.{LockEntry, has_right, end_tx}
 use Rattle.node_rules.specs.LockTable.{LockTable, entry_at, put_entry, marked}
-use Rattle.node_rules.specs.NodeState.{NodeState, table_at, is_serving}
+use Rattle.node_rules.specs.NodeState.{table_at, is_serving}
 use Rattle.node_rules.specs.Words.{pick, same_tx}
 use Rattle.node_rules.specs.Work.{Work}
 use Rattle.node_laws.proofs.Lists.{all_weaker, set_same}
