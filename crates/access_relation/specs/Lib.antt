@@ -1,0 +1,4 @@
+pub mod Altered
+pub mod Steps
+pub mod Midway
+pub mod Events
