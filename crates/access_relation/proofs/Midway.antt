@@ -1,5 +1,5 @@
 -- What is known of the work of an access of an own page, once it is in the page's entry.
-use Rattle.std.proofs.Common.{◌≡◌, refl, ap, sym, subst, ◌∙◌, ℕ, ◌≤◌, ◌==◌, Bool, true, false, List, [], ◌∷◌, Option, Some, None, arith, eqb-true}
+use Rattle.std.proofs.Common.{◌≡◌, refl, ap, sym, subst, ◌∙◌, ℕ, ◌==◌, Bool, true, false, List, [], ◌∷◌, Option, Some, None, arith, eqb-true}
 use Rattle.std.specs.Prelude.{IfSome}
 use Rattle.pcl_base.specs.Limits.{Sizes}
 use Rattle.pcl_base.specs.declared.event.Event.{Event}
@@ -135,7 +135,9 @@ module _ (c : Cluster) (e : Event) (n : ℕ) (s : NodeState) (x : Access) (i : I
           in_view = viewed;
           there = subst (λ (o : Option View). IfSome o (λ (u : View). view_of_epoch c.views s.epoch ≡ Some u)) viewed member.view;
           made = member.reached;
-          rises = subst (λ (o : Option NodeState). IfSome o (λ (y : NodeState). y.epoch ≤ s.epoch)) (sym up) (omega arith);
+          start = s;
+          up = up;
+          rises = omega arith;
           good = entered_good (waits_good held allows);
           called = frames_called n c.disk x (work_of_home w) refl;
           asked = waits_asked asks;
