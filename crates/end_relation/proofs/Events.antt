@@ -1,0 +1,186 @@
+-- An end, whole, of one page.
+use Rattle.std.proofs.Common.{◌≡◌, refl, sym, ap, subst, ◌∙◌, ℕ, ◌<◌, ◌==◌, not, Bool, true, false, List, [], ◌∷◌, Option, Some, None, is_some, eqb-true}
+use Rattle.std.specs.List.{AllByRecursion}
+use Rattle.pcl_base.specs.declared.event.Event.{Event}
+use Rattle.pcl_base.specs.declared.reply.Reason.TheVariants as reason
+use Rattle.pcl_base.specs.declared.tx.TxId.{TxId}
+use Rattle.pcl_base.specs.declared.lock.Held.{Held}
+use Rattle.run_rules.specs.Disk.{Disk}
+use Rattle.run_rules.specs.Now.{now}
+use Rattle.run_rules.specs.Views.{View}
+use Rattle.node_rules.specs.DiskCalls.{all_done}
+use Rattle.node_rules.specs.EndRule.{Ending, commit, abort, endings}
+use Rattle.node_rules.specs.InstallRule.{owned_before}
+use Rattle.node_rules.specs.NodeState.{NodeState, Abort, number_of, partition}
+use Rattle.node_rules.specs.NodeStep.{do_event}
+use Rattle.node_rules.specs.OpenTxs.{is_open, held_by, pending_of}
+use Rattle.node_rules.specs.OwnerRule.{tell_end}
+use Rattle.node_rules.specs.Refusals.{refusal_in_view, refusal}
+use Rattle.node_rules.specs.Work.{HomeWork, Work, Goes, for_each, work_of_home}
+use Rattle.rule_laws.proofs.Turns.{and_left}
+use Rattle.home_laws.proofs.Opens.{open_is_own}
+use Rattle.node_laws.proofs.Bases.{base_of}
+use Rattle.node_laws.proofs.Ends.{IsEnding}
+use Rattle.node_laws.proofs.Events.{not_refused}
+use Rattle.node_laws.proofs.Transactions.{open_is_tx}
+use Rattle.cluster_rules.specs.Clusters.{Cluster, node_at}
+use Rattle.cluster_rules.specs.ClusterStep.{step}
+use Rattle.cluster_laws.specs.Sound.{IsMember, IsCluster}
+use Rattle.cluster_laws.proofs.Steps.{up_is_member_law}
+use Rattle.link_laws.specs.Coming.{coming}
+use Rattle.link_laws.specs.Orders.{how_many}
+use Rattle.moment_laws.specs.Looks.{accesses_in, HasPage, with_entry}
+use Rattle.moment_laws.specs.Tells.{TellsSame}
+use Rattle.storage_laws.specs.Looks.{IsStored}
+use Rattle.moment_laws.proofs.Growing.{nothing_tells_law}
+use Rattle.page_protocol.specs.Homes.{ending as giving_up}
+use Rattle.page_protocol.specs.State.{Page, current}
+use Rattle.page_protocol.proofs.Keeps.{and_then}
+use Rattle.page_relation.specs.Homes.{wait_on}
+use Rattle.page_relation.specs.Messages.{is_release}
+use Rattle.page_relation.specs.Relation.{IsPageOf}
+use Rattle.page_relation.specs.Together.{IsRelated}
+use Rattle.work_relation.specs.Events.{IsEntered}
+use Rattle.work_relation.specs.Keeping.{Leads}
+use Rattle.work_relation.specs.Landing.{land, Acts, trace_of, disk_of}
+use Rattle.work_relation.specs.StepEnds.{start_of, Follows}
+use Rattle.work_relation.proofs.Ended.{end_is_landed_law}
+use Rattle.work_relation.proofs.Kept.{reached_on}
+use Rattle.work_relation.proofs.Started.{acting}
+use Rattle.end_relation.specs.Ends.{IsWhole, AbortIsKept}
+use Rattle.end_relation.specs.Over.{event_of, reply_of, closed_of, over_of}
+use Rattle.end_relation.proofs.Closing.{standing_over}
+use Rattle.end_relation.proofs.Overs.{MayClose, IsOverWork, over_is}
+use Rattle.end_relation.proofs.Owing.{owed, unowed, all_owed}
+use Rattle.end_relation.proofs.Passing.{Passes, is_changed, is_given_up, is_read, is_unused, passes_run, open_stand, abort_passes}
+use Rattle.end_relation.proofs.Past.{page_past}
+use Rattle.end_relation.proofs.Starting.{ends_are, over_midway}
+use Rattle.end_relation.proofs.Telling.{SameComing, IsTelling}
+use Rattle.end_relation.proofs.Told.{tells_all}
+use Rattle.end_relation.proofs.Traced.{end_adds, end_trace, end_coming}
+use Rattle.end_relation.proofs.Untold.{unreleased_before, unreported_before}
+
+-- the endings, and what the step does with them
+told_are : (b : Bool) (t : TxId) (w : HomeWork) → (closed_of b t w).endings ≡ endings w.home t b
+unfolding commit abort
+told_are true t w = refl
+told_are false t w = refl
+
+event_is : (b : Bool) (t : TxId) (c : Cluster) (s : NodeState)
+    → do_event c.disk (event_of b t) (start_of c s) ≡ for_each (tell_end t) (closed_of b t (work_of_home (start_of c s))).endings (over_of b t c s)
+unfolding do_event
+event_is true t c s = refl
+event_is false t c s = refl
+
+module _ (blank : List ℕ) (c : Cluster) (e : Event) (n : ℕ) (s : NodeState) (b : Bool) (t : TxId) (w : Work) (r : IsRelated blank c) (is : IsWhole blank c e n s (event_of b t) t w r) (may : MayClose b s t) where
+  acts : Acts c n
+  acts = acting c e n s (event_of b t) r.cluster is.handed
+
+  member : IsMember c.config c.views n s
+  member = (up_is_member_law c n s r.cluster is.handed.up).1
+
+  pub mine : t.node ≡ n
+  mine = eqb-true t.node s.home.txs.node (and_left (t.node == s.home.txs.node) (t.born == s.home.txs.born) (open_is_own s.home.txs t may.there)) ∙ member.number
+
+  pub over_it : IsOverWork b t c s (over_of b t c s)
+  over_it = over_is b t c s may
+
+  -- one page, from the state that the end leads to
+  module _ (p : ℕ) (low : p < c.config.pages) (k : Page) (passes : Passes c p t b (held_by s.home.txs t p) (disk_of c n (over_of b t c s)) (r.pages.page p) k)
+      (has : HasPage (now c.config (trace_of c e n (over_of b t c s))) p (current k)) (scripts : (u : TxId) → (r.pages.page p).script u ≡ accesses_in u p (trace_of c e n (over_of b t c s))) where
+    abbrev a : Page
+    a = r.pages.page p
+
+    past : IsPageOf (land c e n (over_of b t c s)) p k
+    past = page_past blank c e n p s b t r.cluster is.handed acts mine may (over_of b t c s) over_it a (r.pages.reached p low) (r.pages.related p low) k passes has scripts
+
+    same_links : SameComing c e n p (over_of b t c s)
+    same_links = end_coming c e n s b t r.cluster is.handed p (over_of b t c s) (standing_over t s (over_of b t c s) over_it.over) over_it.replies over_it.sends
+
+    unreleased : (y z : ℕ) → how_many (is_release t) (coming c p y z) ≡ 0
+    unreleased =
+        unreleased_before c p t a (held_by s.home.txs t p) (wait_on (pending_of s.home.txs t) p)
+        (open_stand blank c n s t r.cluster is.handed.up mine b may p a (r.pages.reached p low) (r.pages.related p low)) (r.pages.related p low)
+
+    telling : IsTelling (base_of s) c e n p t (endings s.home t b) (over_of b t c s) k
+    telling =
+        record {
+          midway = over_midway c e n s b t r.cluster is.handed r.asked may over_it;
+          owed =
+              all_owed (SameComing c e n p (over_of b t c s)) (owned_before s.view (partition s.home.config p) (number_of s)) n t p s.home b k may.home
+              (λ touched. owed blank c e n p s b t acts is.handed.up mine may (over_of b t c s) over_it a (r.pages.reached p low) (r.pages.related p low) (is.entered p low) touched k passes) same_links
+              (λ untouched. unowed blank c e n p s b t acts is.handed.up mine may (over_of b t c s) over_it a (r.pages.reached p low) (r.pages.related p low) (is.entered p low) untouched k passes);
+        }
+
+    goes_on : for_each (tell_end t) (endings s.home t b) (over_of b t c s) ≡ Goes w
+    goes_on = ap (λ (es : List Ending). for_each (tell_end t) es (over_of b t c s)) (sym (told_are b t (work_of_home (start_of c s)))) ∙ sym (event_is b t c s) ∙ is.goes
+
+    all_told : Leads c e n p (λ v j. IsEntered j) k w
+    all_told =
+        tells_all c e n p s t acts r.order is.handed.up (open_is_tx s.home t may.home may.there) unreleased
+        (unreported_before c e n p s t acts r.order is.handed.up (open_is_tx s.home t may.home may.there) unreleased r.parties mine) (is.own p low) (endings s.home t b)
+        (subst (AllByRecursion (IsEnding s.home.config)) (told_are b t (work_of_home (start_of c s))) (ends_are c e n s b t r.cluster is.handed r.asked may over_it).endings)
+        blank (over_of b t c s) w k (reached_on blank a k (r.pages.reached p low) (passes_run c p t b (held_by s.home.txs t p) (disk_of c n (over_of b t c s)) a k passes)) past telling goes_on
+
+    pub end_follows : Follows p IsEntered a (step c e)
+    end_follows =
+        record {
+          page = all_told.page;
+          run = and_then (passes_run c p t b (held_by s.home.txs t p) (disk_of c n (over_of b t c s)) a k passes) all_told.run;
+          related = subst (λ (d : Cluster). IsPageOf d p all_told.page) (sym (end_is_landed_law c e n s (event_of b t) w is.handed is.free is.goes is.whole)) all_told.related;
+          known = all_told.known;
+        }
+
+-- ---- an abort
+
+-- a transaction that isn't refused to abort
+not_false : (d : Bool) → not d ≡ false → d ≡ true
+not_false true f = refl
+not_false false f = absurd (cc)
+
+may_abort : (c : Cluster) (n : ℕ) (s : NodeState) (t : TxId) → IsCluster c → node_at c n ≡ Some s → refusal s (Abort t) ≡ None → MayClose false s t
+unfolding refusal
+may_abort c n s t i up free = by s.view refl
+  where
+    all : (not (is_some s.view) ≡ false) × (refusal_in_view s (Abort t) ≡ None)
+    all = not_refused (not (is_some s.view)) reason.NotInView (refusal_in_view s (Abort t)) free
+
+    there : is_open s.home.txs t ≡ true
+    there = not_false (is_open s.home.txs t) (not_refused (not (is_open s.home.txs t)) reason.NoTx None all.1).0
+
+    by : (o : Option View) → s.view ≡ o → MayClose false s t
+    by None own = absurd (let bad : true ≡ false = sym (ap (λ (x : Option View). not (is_some x)) own) ∙ all.0 in cc)
+    by (Some v) own = record { home = (up_is_member_law c n s i up).1.sound.home; view = v; in_view = own; there = there; waits = λ bad. absurd (cc) }
+
+-- what an abort leaves of the current page
+given_up_current : (c : Cluster) (p : ℕ) (t : TxId) (d : Disk) (o : Option Held) (a k : Page) → Passes c p t false o d a k → current k ≡ current a
+unfolding giving_up
+given_up_current c p t d o a k (is_changed ranges commits_it locked holds some made long fits stored) = absurd (cc)
+given_up_current c p t d o a k (is_read commits_it shared granted none stored) = absurd (cc)
+given_up_current c p t d o a k (is_given_up aborts begun stored) = refl
+given_up_current c p t d o a k (is_unused none empty free stored) = refl
+
+pub abort_is_kept_law : AbortIsKept
+abort_is_kept_law blank c e n s t w r is p low =
+    end_follows blank c e n s false t w r is may p low passed.0 passed.1
+    (subst (λ o. HasPage o p (current passed.0)) (sym (ap (now c.config) traced ∙ tells.now_same))
+    (subst (HasPage (now c.config c.trace) p) (sym (given_up_current c p t (disk_of c n (over_of false t c s)) (held_by s.home.txs t p) (r.pages.page p) passed.0 passed.1)) (r.pages.related p low).history.now_same))
+    (λ u. (r.pages.related p low).homes.scripts u ∙ sym (tells.accesses u p) ∙ sym (ap (accesses_in u p) traced))
+  where
+    may : MayClose false s t
+    may = may_abort c n s t r.cluster is.handed.up is.free
+
+    seen : IsOverWork false t c s (over_of false t c s)
+    seen = over_it blank c e n s false t w r is may
+
+    traced : trace_of c e n (over_of false t c s) ≡ with_entry c.trace e (reply_of false t ∷ []) []
+    traced = end_trace c e n s false t r.cluster is.handed (over_of false t c s) seen.replies seen.sends
+
+    tells : TellsSame c.config c.trace (with_entry c.trace e (reply_of false t ∷ []) [])
+    tells = nothing_tells_law c.config c.trace (with_entry c.trace e (reply_of false t ∷ []) []) (end_adds c e n s false t r.cluster is.handed)
+
+    passed : (k : Page) × Passes c p t false (held_by s.home.txs t p) (disk_of c n (over_of false t c s)) (r.pages.page p) k
+    passed =
+        abort_passes blank c n s t r.cluster is.handed.up (mine blank c e n s false t w r is may) false may p (r.pages.page p) (r.pages.reached p low) (r.pages.related p low)
+        (disk_of c n (over_of false t c s)) refl
+        (subst (λ (d : Disk). IsStored c.config d p (r.pages.page p).disk (r.pages.page p).log) (sym (ap (all_done n c.disk) seen.calls)) (r.pages.related p low).stored)

@@ -1,0 +1,39 @@
+-- The end of a transaction keeps the relation of each page.
+use Rattle.std.specs.Prelude.{◌≡◌, ℕ, ◌<◌, List, None}
+use Rattle.pcl_base.specs.declared.event.Event.{Event}
+use Rattle.pcl_base.specs.declared.tx.TxId.{TxId}
+use Rattle.node_rules.specs.NodeState.{NodeState, NodeEvent, Commit, Abort}
+use Rattle.node_rules.specs.NodeStep.{do_event}
+use Rattle.node_rules.specs.Refusals.{refusal}
+use Rattle.node_rules.specs.Work.{Work, Goes}
+use Rattle.node_laws.proofs.Bases.{base_of}
+use Rattle.cluster_rules.specs.Clusters.{Cluster, stop_at}
+use Rattle.cluster_rules.specs.ClusterStep.{left_of, step}
+use Rattle.cluster_laws.specs.Handed.{IsHanded}
+use Rattle.page_relation.specs.Together.{IsRelated}
+use Rattle.loss_relation.specs.Writes.{ScriptsFit}
+use Rattle.work_relation.specs.Events.{IsEntered}
+use Rattle.work_relation.specs.StepEnds.{start_of, Follows}
+use Rattle.end_relation.specs.Midway.{OwnEndsKeep}
+
+-- a step that a node makes whole on an event, from a cluster that is related and whose pages are all entered; of the ends at
+-- the node's own tables the relation is taken
+pub record IsWhole (blank : List ℕ) (c : Cluster) (e : Event) (n : ℕ) (s : NodeState) (ev : NodeEvent) (t : TxId) (w : Work) (r : IsRelated blank c) : Type 0 where
+  pub handed : IsHanded c e n s ev
+  pub free : refusal s ev ≡ None
+  pub goes : do_event c.disk ev (start_of c s) ≡ Goes w
+  pub whole : left_of n c.disk w.calls (stop_at c n) ≡ None
+  pub entered : (p : ℕ) → p < c.config.pages → IsEntered (r.pages.page p)
+  pub own : (p : ℕ) → p < c.config.pages → OwnEndsKeep (base_of s) c e n p t
+
+-- An abort: at each page the transaction ends without a commit, and its owner is told.
+abbrev pub AbortIsKept : Type 0
+AbortIsKept =
+    (blank : List ℕ) (c : Cluster) (e : Event) (n : ℕ) (s : NodeState) (t : TxId) (w : Work) (r : IsRelated blank c) → IsWhole blank c e n s (Abort t) t w r
+    → (p : ℕ) → p < c.config.pages → Follows p IsEntered (r.pages.page p) (step c e)
+
+-- A commit: all pages that it wrote come to their next versions at once, and each page's owner is told.
+abbrev pub CommitIsKept : Type 0
+CommitIsKept =
+    (blank : List ℕ) (c : Cluster) (e : Event) (n : ℕ) (s : NodeState) (t : TxId) (w : Work) (r : IsRelated blank c) → IsWhole blank c e n s (Commit t) t w r
+    → ScriptsFit c r.pages.page → (p : ℕ) → p < c.config.pages → Follows p IsEntered (r.pages.page p) (step c e)

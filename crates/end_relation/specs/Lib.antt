@@ -1,0 +1,4 @@
+pub mod Owing
+pub mod Over
+pub mod Midway
+pub mod Ends

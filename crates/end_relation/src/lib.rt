@@ -1,0 +1,7 @@
+#![tactic(auto)]
+
+//! The end of a transaction keeps the relation of a cluster and the machine of one page.
+
+mod ends;
+
+pub use ends::{abort_is_kept};
