@@ -16,3 +16,5 @@ pub mod Told
 pub mod Starting
 pub mod Untold
 pub mod Events
+pub mod Forcing
+pub mod Committed

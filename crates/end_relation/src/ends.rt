@@ -1,8 +1,14 @@
 //! Ends of transactions, each law as the clause of an empty function.
 
-ghost use Rattle.end_relation.specs.Ends.{AbortIsKept};
+ghost use Rattle.end_relation.specs.Ends.{AbortIsKept, CommitIsKept};
 
 /// An abort keeps the relation of each page: its transaction ends there without a commit, and the page's owner is told.
 pub fn abort_is_kept()
     ensures { AbortIsKept }
+{}
+
+/// So does a commit: each page that its transaction wrote comes to its next version in one commit of the machine, each
+/// other one that it held ends with its reads, and the page's owner is told.
+pub fn commit_is_kept()
+    ensures { CommitIsKept }
 {}
