@@ -6,11 +6,9 @@ use Rattle.pcl_base.specs.declared.tx.TxId.{TxId}
 use Rattle.run_rules.specs.Now.{now}
 use Rattle.node_rules.specs.NodeState.{NodeState, Commit}
 use Rattle.node_rules.specs.OpenTxs.{held_by}
-use Rattle.node_rules.specs.Work.{Work}
 use Rattle.rule_laws.proofs.Turns.{and_left}
 use Rattle.home_laws.proofs.Opens.{open_is_own}
 use Rattle.cluster_rules.specs.Clusters.{Cluster}
-use Rattle.cluster_rules.specs.ClusterStep.{step}
 use Rattle.cluster_laws.proofs.Steps.{up_is_member_law}
 use Rattle.moment_laws.specs.Looks.{accesses_in, HasPage, with_entry}
 use Rattle.moment_laws.specs.Machine.{CommitStep, AreCurrent}
@@ -22,10 +20,8 @@ use Rattle.page_protocol.specs.State.{Page, current}
 use Rattle.page_relation.specs.Together.{IsRelated}
 use Rattle.loss_relation.specs.Writes.{ScriptsFit}
 use Rattle.loss_relation.proofs.Halting.{may_end}
-use Rattle.work_relation.specs.Events.{IsEntered}
 use Rattle.work_relation.specs.Landing.{trace_of, disk_of}
-use Rattle.work_relation.specs.StepEnds.{Follows}
-use Rattle.end_relation.specs.Ends.{IsWhole, CommitIsKept}
+use Rattle.end_relation.specs.Ends.{CanEnd, CommitIsKept}
 use Rattle.end_relation.specs.Over.{reply_of, over_of}
 use Rattle.end_relation.proofs.Events.{end_follows, over_it}
 use Rattle.end_relation.proofs.Forcing.{may_commit, page_passes}
@@ -33,17 +29,17 @@ use Rattle.end_relation.proofs.Overs.{MayClose, IsOverWork}
 use Rattle.end_relation.proofs.Passing.{Passes, passes_commit}
 use Rattle.end_relation.proofs.Traced.{end_adds, end_trace}
 
-module _ (blank : List ℕ) (c : Cluster) (e : Event) (n : ℕ) (s : NodeState) (t : TxId) (w : Work) (r : IsRelated blank c) (is : IsWhole blank c e n s (Commit t) t w r) (fit : ScriptsFit c r.pages.page) where
+module _ (blank : List ℕ) (c : Cluster) (e : Event) (n : ℕ) (s : NodeState) (t : TxId) (r : IsRelated blank c) (is : CanEnd blank c e n s (Commit t) t r) (fit : ScriptsFit c r.pages.page) where
   here : t.node ≡ n
   here =
       eqb-true t.node s.home.txs.node (and_left (t.node == s.home.txs.node) (t.born == s.home.txs.born) (open_is_own s.home.txs t (may_end s t is.free).there))
       ∙ (up_is_member_law c n s r.cluster is.handed.up).1.number
 
-  may : MayClose true s t
+  pub may : MayClose true s t
   may = may_commit blank c n s t r is.handed.up here is.free fit
 
   seen : IsOverWork true t c s (over_of true t c s)
-  seen = over_it blank c e n s true t w r is may
+  seen = over_it blank c e n s true t r is may
 
   -- each page past the commit
   record Next (p : ℕ) : Type 0 where
@@ -59,7 +55,7 @@ module _ (blank : List ℕ) (c : Cluster) (e : Event) (n : ℕ) (s : NodeState) 
           record { page = passes.0; passed = λ l. passes.1 }
       by false high = record { page = r.pages.page p; passed = λ l. (let bad : true ≡ false = sym (lt-ltb p c.config.pages l) ∙ high in absurd (cc)) }
 
-  next_state : ℕ → Page
+  pub next_state : ℕ → Page
   next_state p = (next_page p).page
 
   next_step : (p : ℕ) → p < c.config.pages → CommitStep t (r.pages.page p) (next_state p)
@@ -89,12 +85,18 @@ module _ (blank : List ℕ) (c : Cluster) (e : Event) (n : ℕ) (s : NodeState) 
   unfolding trace
   tells = commit_tells_law c.config c.trace (with_entry c.trace e (reply_of true t ∷ []) []) t (end_adds c e n s true t r.cluster is.handed)
 
-  pub commit_follows : (p : ℕ) → p < c.config.pages → Follows p IsEntered (r.pages.page p) (step c e)
-  unfolding next_state next_page
-  commit_follows p low =
-      end_follows blank c e n s true t w r is may p low (next_state p) ((next_page p).passed low)
-      (subst (λ (o : List Entry). HasPage (now c.config o) p (current (next_state p))) (sym traced) (now_has_pages_law c.config trace (λ q. current (next_state q)) after.now_same p low))
-      (λ u. (r.pages.related p low).homes.scripts u ∙ sym (tells.accesses u p) ∙ sym (ap (accesses_in u p) traced))
+  module _ (p : ℕ) (low : p < c.config.pages) where
+    pub passed : Passes c p t true (held_by s.home.txs t p) (disk_of c n (over_of true t c s)) (r.pages.page p) (next_state p)
+    unfolding next_state next_page
+    passed = (next_page p).passed low
+
+    pub has_now : HasPage (now c.config (trace_of c e n (over_of true t c s))) p (current (next_state p))
+    has_now = subst (λ (o : List Entry). HasPage (now c.config o) p (current (next_state p))) (sym traced) (now_has_pages_law c.config trace (λ q. current (next_state q)) after.now_same p low)
+
+    pub has_scripts : (u : TxId) → (r.pages.page p).script u ≡ accesses_in u p (trace_of c e n (over_of true t c s))
+    has_scripts u = (r.pages.related p low).homes.scripts u ∙ sym (tells.accesses u p) ∙ sym (ap (accesses_in u p) traced)
 
 pub commit_is_kept_law : CommitIsKept
-commit_is_kept_law blank c e n s t w r is fit p low = commit_follows blank c e n s t w r is fit p low
+commit_is_kept_law blank c e n s t w r is fit goes whole p low =
+    end_follows blank c e n s true t r is (may blank c e n s t r is fit) p low (next_state blank c e n s t r is fit p) (passed blank c e n s t r is fit p low)
+    (has_now blank c e n s t r is fit p low) (has_scripts blank c e n s t r is fit p low) w goes whole

@@ -18,3 +18,4 @@ pub mod Untold
 pub mod Events
 pub mod Forcing
 pub mod Committed
+pub mod Going

@@ -154,8 +154,7 @@ module _ (blank : List ℕ) (c : Cluster) (e : Event) (n p : ℕ) (s : NodeState
           image = subst (ChangeHas k.hist) (sym change_on) (bytes_are ∙ sym hist_is ∙ ap k.hist (sym version_is));
           entered = λ off. elsewhere (sym same_serving ∙ (λ j. is_some (sym change_on j) && (k.served && n == k.owner)) ∙ off);
           copy = λ y some on here.
-              let parts = change_is true (new_version s.home p) (new_bytes s.home t p) y (sym change_on ∙ some) in
-              (
+              let parts = change_is true (new_version s.home p) (new_bytes s.home t p) y (sym change_on ∙ some) in (
                 dirty_now ∙ ap (λ (d : Bool). machine.pick d true a.dirty) (sym same_serving ∙ (λ j. on j && (own here) j)),
                 slot_after blank c e n p s t x acts up a r b reached mine may is commits_it locked holds ranges
                     ∙ (λ j. Some (record { version = sym (parts.0 ∙ version_is) j; bytes = sym (parts.1 ∙ bytes_are) j })),
@@ -242,8 +241,7 @@ owed_among Before owned n t p h b a (q ∷ ps) touched count some before none = 
         → (times p ps ≡ one_if touched → (touched ≡ true → IsOwed owned n t (ending h t b p).kind (ending h t b p).change a) → Before → (touched ≡ false → IsEntered a) → AreOwed Before owned n t p (map (ending h t b) ps) a)
         → choose d (IsOwed owned n t (ending h t b q).kind (ending h t b q).change a × IsAbsent p (map (ending h t b) ps) × Before) (AreOwed Before owned n t p (map (ending h t b) ps) a)
     by true same one rest =
-        let split = the_one touched one in
-        (
+        let split = the_one touched one in (
           subst (λ (m : ℕ). IsOwed owned n t (ending h t b m).kind (ending h t b m).change a) (sym (number_equal q p same)) (some split.0),
           absent_of h t b p ps split.1,
           before,

@@ -43,7 +43,7 @@ pub record IsUntoldBefore (c : Cluster) (n p : ℕ) (t : TxId) (reached : ℕ) :
 module _ (c : Cluster) (e : Event) (n p : ℕ) (s : NodeState) (t : TxId) (acts : Acts c n) (order : IsInOrder c) (up : node_at c n ≡ Some s) (tx : IsTx s.home.config t)
     (unreleased : (y z : ℕ) → how_many (is_release t) (coming c p y z) ≡ 0)
     (unreported : (w : Work) (a : Page) (tb : LockTable) → IsMidway (base_of s) c e n w → IsWorkOf c e n p w a → table_of w.node p ≡ Some tb
-        → (y z : ℕ) → AllByRecursion (λ (m : Message). is_report m.body ≡ true → y ≡ t.node → era_at c (partition c.config p) m.epoch ≢ a.reached n) (coming c p y z))
+    → (y z : ℕ) → AllByRecursion (λ (m : Message). is_report m.body ≡ true → y ≡ t.node → era_at c (partition c.config p) m.epoch ≢ a.reached n) (coming c p y z))
     (own : OwnEndsKeep (base_of s) c e n p t) where
   abbrev b : Base
   b = base_of s
@@ -92,12 +92,12 @@ module _ (c : Cluster) (e : Event) (n p : ℕ) (s : NodeState) (t : TxId) (acts 
         by false other = kept other x.kind
 
   -- a page with a table of the node's own
-  own_owes : (x : Ending) (w : Work) (a : Page) → (k : Kind) → (b.has (partition b.config p) ≡ true) → IsOwed (b.has (partition b.config p)) n t k x.change a → OwesEnd n t x.change a
+  pub own_owes : (x : Ending) (w : Work) (a : Page) → (k : Kind) → (b.has (partition b.config p) ≡ true) → IsOwed (b.has (partition b.config p)) n t k x.change a → OwesEnd n t x.change a
   own_owes x w a kind.Right has owed = absurd (let bad : true ≡ false = sym has ∙ owed.0 in cc)
   own_owes x w a kind.Own has owed = owed
   own_owes x w a kind.Registered has owed = owed
 
-  untold : (w : Work) (a : Page) (tb : LockTable) → IsMidway b c e n w → IsWorkOf c e n p w a → table_of w.node p ≡ Some tb → SameComing c e n p w → IsUntold c e n p t w a
+  pub untold : (w : Work) (a : Page) (tb : LockTable) → IsMidway b c e n w → IsWorkOf c e n p w a → table_of w.node p ≡ Some tb → SameComing c e n p w → IsUntold c e n p t w a
   untold w a tb m related there same =
       record {
         unreleased = λ y z. ap (how_many (is_release t)) (same y z) ∙ unreleased y z;

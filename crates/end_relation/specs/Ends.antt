@@ -5,7 +5,7 @@ use Rattle.pcl_base.specs.declared.tx.TxId.{TxId}
 use Rattle.node_rules.specs.NodeState.{NodeState, NodeEvent, Commit, Abort}
 use Rattle.node_rules.specs.NodeStep.{do_event}
 use Rattle.node_rules.specs.Refusals.{refusal}
-use Rattle.node_rules.specs.Work.{Work, Goes}
+use Rattle.node_rules.specs.Work.{Work, Goes, Differs}
 use Rattle.node_laws.proofs.Bases.{base_of}
 use Rattle.cluster_rules.specs.Clusters.{Cluster, stop_at}
 use Rattle.cluster_rules.specs.ClusterStep.{left_of, step}
@@ -14,26 +14,38 @@ use Rattle.page_relation.specs.Together.{IsRelated}
 use Rattle.loss_relation.specs.Writes.{ScriptsFit}
 use Rattle.work_relation.specs.Events.{IsEntered}
 use Rattle.work_relation.specs.StepEnds.{start_of, Follows}
-use Rattle.end_relation.specs.Midway.{OwnEndsKeep}
+use Rattle.end_relation.specs.Midway.{OwnEndsKeep, OwnEndsGo}
 
--- a step that a node makes whole on an event, from a cluster that is related and whose pages are all entered; of the ends at
--- the node's own tables the relation is taken
-pub record IsWhole (blank : List ℕ) (c : Cluster) (e : Event) (n : ℕ) (s : NodeState) (ev : NodeEvent) (t : TxId) (w : Work) (r : IsRelated blank c) : Type 0 where
+-- A node is asked to end a transaction, and doesn't refuse, in a cluster that is related and whose pages are all entered; of the
+-- ends that it tells at its own tables the relation is taken.
+pub record CanEnd (blank : List ℕ) (c : Cluster) (e : Event) (n : ℕ) (s : NodeState) (ev : NodeEvent) (t : TxId) (r : IsRelated blank c) : Type 0 where
   pub handed : IsHanded c e n s ev
   pub free : refusal s ev ≡ None
-  pub goes : do_event c.disk ev (start_of c s) ≡ Goes w
-  pub whole : left_of n c.disk w.calls (stop_at c n) ≡ None
   pub entered : (p : ℕ) → p < c.config.pages → IsEntered (r.pages.page p)
   pub own : (p : ℕ) → p < c.config.pages → OwnEndsKeep (base_of s) c e n p t
 
 -- An abort: at each page the transaction ends without a commit, and its owner is told.
 abbrev pub AbortIsKept : Type 0
 AbortIsKept =
-    (blank : List ℕ) (c : Cluster) (e : Event) (n : ℕ) (s : NodeState) (t : TxId) (w : Work) (r : IsRelated blank c) → IsWhole blank c e n s (Abort t) t w r
+    (blank : List ℕ) (c : Cluster) (e : Event) (n : ℕ) (s : NodeState) (t : TxId) (w : Work) (r : IsRelated blank c) → CanEnd blank c e n s (Abort t) t r
+    → do_event c.disk (Abort t) (start_of c s) ≡ Goes w → left_of n c.disk w.calls (stop_at c n) ≡ None
     → (p : ℕ) → p < c.config.pages → Follows p IsEntered (r.pages.page p) (step c e)
 
 -- A commit: all pages that it wrote come to their next versions at once, and each page's owner is told.
 abbrev pub CommitIsKept : Type 0
 CommitIsKept =
-    (blank : List ℕ) (c : Cluster) (e : Event) (n : ℕ) (s : NodeState) (t : TxId) (w : Work) (r : IsRelated blank c) → IsWhole blank c e n s (Commit t) t w r
-    → ScriptsFit c r.pages.page → (p : ℕ) → p < c.config.pages → Follows p IsEntered (r.pages.page p) (step c e)
+    (blank : List ℕ) (c : Cluster) (e : Event) (n : ℕ) (s : NodeState) (t : TxId) (w : Work) (r : IsRelated blank c) → CanEnd blank c e n s (Commit t) t r
+    → ScriptsFit c r.pages.page → do_event c.disk (Commit t) (start_of c s) ≡ Goes w → left_of n c.disk w.calls (stop_at c n) ≡ None
+    → (p : ℕ) → p < c.config.pages → Follows p IsEntered (r.pages.page p) (step c e)
+
+-- No page differs in an abort, nor in a commit, where none does in the ends that are told at the node's own tables.
+abbrev pub AbortGoes : Type 0
+AbortGoes =
+    (blank : List ℕ) (c : Cluster) (e : Event) (n : ℕ) (s : NodeState) (t : TxId) (r : IsRelated blank c) (q expected found : ℕ) → CanEnd blank c e n s (Abort t) t r
+    → OwnEndsGo blank (base_of s) c e n t → do_event c.disk (Abort t) (start_of c s) ≡ Differs q expected found → ⊥
+
+-- the same of a commit
+abbrev pub CommitGoes : Type 0
+CommitGoes =
+    (blank : List ℕ) (c : Cluster) (e : Event) (n : ℕ) (s : NodeState) (t : TxId) (r : IsRelated blank c) (q expected found : ℕ) → CanEnd blank c e n s (Commit t) t r
+    → ScriptsFit c r.pages.page → OwnEndsGo blank (base_of s) c e n t → do_event c.disk (Commit t) (start_of c s) ≡ Differs q expected found → ⊥

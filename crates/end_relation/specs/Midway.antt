@@ -1,5 +1,5 @@
 -- What is known of a work inside a step, whatever page, and what is taken of the ends at own tables.
-use Rattle.std.specs.Prelude.{◌≡◌, ◌≢◌, ℕ, ◌<◌, ◌≤◌, ◌==◌, true, false, Some, IfSome}
+use Rattle.std.specs.Prelude.{◌≡◌, ◌≢◌, ℕ, ◌<◌, ◌≤◌, ◌==◌, true, false, List, Some, IfSome}
 use Rattle.std.specs.List.{AllByRecursion}
 use Rattle.pcl_base.specs.declared.event.Event.{Event}
 use Rattle.pcl_base.specs.declared.lock.Pending.{Pending}
@@ -11,7 +11,7 @@ use Rattle.node_rules.specs.LockTable.{LockTable}
 use Rattle.node_rules.specs.NodeState.{NodeState, partition, table_of}
 use Rattle.node_rules.specs.OpenTxs.{pending_of}
 use Rattle.node_rules.specs.OwnerRule.{tell_end}
-use Rattle.node_rules.specs.Work.{Work, Goes, work_of_home}
+use Rattle.node_rules.specs.Work.{Work, Goes, Differs, work_of_home}
 use Rattle.node_laws.proofs.Works.{Base, IsBase, IsGood}
 use Rattle.cluster_rules.specs.Clusters.{Cluster, node_at, view_of_epoch, last_view}
 use Rattle.era_laws.specs.Eras.{era_at}
@@ -19,9 +19,10 @@ use Rattle.link_laws.specs.Coming.{coming}
 use Rattle.link_laws.specs.Orders.{is_report, how_many}
 use Rattle.moment_laws.specs.Looks.{asked_last}
 use Rattle.page_protocol.specs.State.{Page}
+use Rattle.page_protocol.specs.Steps.{Reached}
 use Rattle.page_relation.specs.Messages.{is_release}
 use Rattle.work_relation.specs.Events.{IsEntered}
-use Rattle.work_relation.specs.Keeping.{Keeps}
+use Rattle.work_relation.specs.Keeping.{IsWorkOf, Keeps}
 use Rattle.work_relation.specs.Landing.{land, trace_of}
 use Rattle.work_relation.specs.Letting.{CalledBy}
 use Rattle.work_relation.specs.Unseen.{IsUnseen}
@@ -68,3 +69,9 @@ pub record OwnEndsKeep (b : Base) (c : Cluster) (e : Event) (n p : ℕ) (t : TxI
       → tell_end t x w ≡ Goes y → IsElsewhere b c e n p w y
   pub own : (x : Ending) (tb : LockTable) → x.page ≡ p
       → Keeps c e n p (λ w a. OwesOwn b c e n p t x tb w a) (tell_end t x) (λ w a. IsMidway b c e n w × IsEntered a)
+
+-- What is taken of them besides: no page differs where the end is told.
+abbrev pub OwnEndsGo : List ℕ → Base → Cluster → Event → ℕ → TxId → Type 0
+OwnEndsGo blank b c e n t =
+    (x : Ending) (tb : LockTable) (w : Work) (a : Page) (q expected found : ℕ) → x.page < c.config.pages → Reached blank a → IsWorkOf c e n x.page w a
+    → OwesOwn b c e n x.page t x tb w a → tell_end t x w ≡ Differs q expected found → ⊥

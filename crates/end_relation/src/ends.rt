@@ -1,6 +1,6 @@
 //! Ends of transactions, each law as the clause of an empty function.
 
-ghost use Rattle.end_relation.specs.Ends.{AbortIsKept, CommitIsKept};
+ghost use Rattle.end_relation.specs.Ends.{AbortIsKept, CommitIsKept, AbortGoes, CommitGoes};
 
 /// An abort keeps the relation of each page: its transaction ends there without a commit, and the page's owner is told.
 pub fn abort_is_kept()
@@ -11,4 +11,14 @@ pub fn abort_is_kept()
 /// other one that it held ends with its reads, and the page's owner is told.
 pub fn commit_is_kept()
     ensures { CommitIsKept }
+{}
+
+/// No page differs in an abort.
+pub fn abort_goes()
+    ensures { AbortGoes }
+{}
+
+/// Nor does one in a commit.
+pub fn commit_goes()
+    ensures { CommitGoes }
 {}

@@ -4,4 +4,4 @@
 
 mod ends;
 
-pub use ends::{abort_is_kept, commit_is_kept};
+pub use ends::{abort_goes, abort_is_kept, commit_goes, commit_is_kept};
