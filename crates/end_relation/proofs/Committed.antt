@@ -21,9 +21,9 @@ use Rattle.page_relation.specs.Together.{IsRelated}
 use Rattle.loss_relation.specs.Writes.{ScriptsFit}
 use Rattle.loss_relation.proofs.Halting.{may_end}
 use Rattle.work_relation.specs.Landing.{trace_of, disk_of}
-use Rattle.end_relation.specs.Ends.{CanEnd, CommitIsKept}
+use Rattle.end_relation.specs.Ends.{CanEnd, CommitLeaves, CommitIsKept}
 use Rattle.end_relation.specs.Over.{reply_of, over_of}
-use Rattle.end_relation.proofs.Events.{end_follows, over_it}
+use Rattle.end_relation.proofs.Events.{leaves, end_follows, over_it}
 use Rattle.end_relation.proofs.Forcing.{may_commit, page_passes}
 use Rattle.end_relation.proofs.Overs.{MayClose, IsOverWork}
 use Rattle.end_relation.proofs.Passing.{Passes, passes_commit}
@@ -95,6 +95,11 @@ module _ (blank : List ℕ) (c : Cluster) (e : Event) (n : ℕ) (s : NodeState) 
 
     pub has_scripts : (u : TxId) → (r.pages.page p).script u ≡ accesses_in u p (trace_of c e n (over_of true t c s))
     has_scripts u = (r.pages.related p low).homes.scripts u ∙ sym (tells.accesses u p) ∙ sym (ap (accesses_in u p) traced)
+
+pub commit_leaves_law : CommitLeaves
+commit_leaves_law blank c e n s t r is fit p low =
+    leaves blank c e n s true t r is (may blank c e n s t r is fit) p low (next_state blank c e n s t r is fit p) (passed blank c e n s t r is fit p low) (has_now blank c e n s t r is fit p low)
+    (has_scripts blank c e n s t r is fit p low)
 
 pub commit_is_kept_law : CommitIsKept
 commit_is_kept_law blank c e n s t w r is fit goes whole p low =

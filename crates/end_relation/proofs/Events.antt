@@ -52,16 +52,17 @@ use Rattle.work_relation.specs.StepEnds.{start_of, Follows}
 use Rattle.work_relation.proofs.Ended.{end_is_landed_law}
 use Rattle.work_relation.proofs.Kept.{reached_on}
 use Rattle.work_relation.proofs.Started.{acting}
-use Rattle.end_relation.specs.Ends.{CanEnd, AbortIsKept}
+use Rattle.end_relation.specs.Ends.{CanEnd, LeavesEnd, AbortLeaves, AbortIsKept}
 use Rattle.end_relation.specs.Midway.{IsMidway}
 use Rattle.end_relation.specs.Over.{event_of, reply_of, closed_of, over_of}
+use Rattle.end_relation.specs.Owing.{SameComing}
 use Rattle.end_relation.proofs.Closing.{standing_over}
 use Rattle.end_relation.proofs.Overs.{MayClose, IsOverWork, over_is}
 use Rattle.end_relation.proofs.Owing.{owed, unowed, all_owed}
 use Rattle.end_relation.proofs.Passing.{Passes, is_changed, is_given_up, is_read, is_unused, passes_run, open_stand, abort_passes}
 use Rattle.end_relation.proofs.Past.{page_past}
 use Rattle.end_relation.proofs.Starting.{ends_are, over_midway}
-use Rattle.end_relation.proofs.Telling.{SameComing, IsTelling}
+use Rattle.end_relation.proofs.Telling.{IsTelling}
 use Rattle.end_relation.proofs.Told.{tells_all}
 use Rattle.end_relation.proofs.Traced.{end_adds, end_trace, end_coming}
 use Rattle.end_relation.proofs.Untold.{unreleased_before, unreported_before}
@@ -147,6 +148,16 @@ module _ (blank : List ℕ) (c : Cluster) (e : Event) (n : ℕ) (s : NodeState) 
     pub stands_there : Stood p (endings s.home t b) (over_of b t c s)
     stands_there = record { page = k; reached = reached_after; related = past; known = telling }
 
+    pub leaves : LeavesEnd c e n p s b t a
+    leaves =
+        record {
+          page = k;
+          run = passes_run c p t b (held_by s.home.txs t p) (disk_of c n (over_of b t c s)) a k passes;
+          related = past;
+          midway = telling.midway;
+          owed = telling.owed;
+        }
+
     -- one that stands so
     module _ (w : Work) (goes : do_event c.disk (event_of b t) (start_of c s) ≡ Goes w) (whole : left_of n c.disk w.calls (stop_at c n) ≡ None) where
       all_told : Leads c e n p (λ v j. IsEntered j) k w
@@ -219,6 +230,11 @@ module _ (blank : List ℕ) (c : Cluster) (e : Event) (n : ℕ) (s : NodeState) 
 
     pub has_scripts : (u : TxId) → (r.pages.page p).script u ≡ accesses_in u p (trace_of c e n (over_of false t c s))
     has_scripts u = (r.pages.related p low).homes.scripts u ∙ sym (tells.accesses u p) ∙ sym (ap (accesses_in u p) traced)
+
+pub abort_leaves_law : AbortLeaves
+abort_leaves_law blank c e n s t r is p low =
+    leaves blank c e n s false t r is (may_give_up blank c e n s t r is) p low (passed blank c e n s t r is p low).0 (passed blank c e n s t r is p low).1 (has_now blank c e n s t r is p low)
+    (has_scripts blank c e n s t r is p low)
 
 pub abort_is_kept_law : AbortIsKept
 abort_is_kept_law blank c e n s t w r is goes whole p low =

@@ -40,13 +40,9 @@ use Rattle.work_relation.proofs.Framing.{unseen_is_kept_law}
 use Rattle.work_relation.proofs.Landed.{landing_is_seen_law}
 use Rattle.work_relation.proofs.Sending.{nothing_is_ahead_law}
 use Rattle.end_relation.specs.Midway.{IsMidway}
-use Rattle.end_relation.specs.Owing.{OwesEnd, IsOwed, choose, IsAbsent, AreOwed}
+use Rattle.end_relation.specs.Owing.{OwesEnd, IsOwed, choose, IsAbsent, AreOwed, SameComing}
 use Rattle.end_relation.proofs.Midway.{send_midway}
 use Rattle.end_relation.proofs.Serving.{serving_is}
-
--- what comes is what came before the step
-abbrev pub SameComing : Cluster → Event → ℕ → ℕ → Work → Type 0
-SameComing c e n p w = (y z : ℕ) → coming (land c e n w) p y z ≡ coming c p y z
 
 -- what is known where some ends are still to be told
 pub record IsTelling (b : Base) (c : Cluster) (e : Event) (n p : ℕ) (t : TxId) (es : List Ending) (w : Work) (a : Page) : Type 0 where

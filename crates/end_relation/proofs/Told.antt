@@ -32,8 +32,8 @@ use Rattle.work_relation.proofs.Kept.{two_keep}
 use Rattle.work_relation.proofs.Quiet.{sends_elsewhere_law}
 use Rattle.work_relation.proofs.Sending.{send_is_kept_law}
 use Rattle.end_relation.specs.Midway.{IsMidway, IsUntold, OwnEndsKeep}
-use Rattle.end_relation.specs.Owing.{OwesEnd, IsOwed, IsAbsent}
-use Rattle.end_relation.proofs.Telling.{SameComing, IsTelling, release, released, released_midway, may_release, unserved, unseen_tells, own_owed, done, stays, is_owned}
+use Rattle.end_relation.specs.Owing.{OwesEnd, IsOwed, IsAbsent, SameComing}
+use Rattle.end_relation.proofs.Telling.{IsTelling, release, released, released_midway, may_release, unserved, unseen_tells, own_owed, done, stays, is_owned}
 
 -- the end of t was told by no message before the step, and no report that counts is of the era that its node has reached
 pub record IsUntoldBefore (c : Cluster) (n p : ℕ) (t : TxId) (reached : ℕ) : Type 0 where

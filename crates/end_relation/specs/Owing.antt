@@ -1,15 +1,19 @@
 -- What the end of a transaction leaves to be told of a page.
 use Rattle.std.specs.Prelude.{◌≡◌, ℕ, ◌==◌, ◌&&◌, Bool, true, false, List, [], ◌∷◌, Option, Some, is_some}
 use Rattle.std.specs.List.{AllByRecursion}
+use Rattle.pcl_base.specs.declared.event.Event.{Event}
 use Rattle.pcl_base.specs.declared.lock.Kind.{Kind}
 use Rattle.pcl_base.specs.declared.lock.Kind.TheVariants as kind
 use Rattle.pcl_base.specs.declared.message.Change.{Change}
 use Rattle.pcl_base.specs.declared.tx.TxId.{TxId}
 use Rattle.node_rules.specs.EndRule.{Ending}
-use Rattle.cluster_rules.specs.Clusters.{version_of_change}
+use Rattle.node_rules.specs.Work.{Work}
+use Rattle.cluster_rules.specs.Clusters.{Cluster, version_of_change}
+use Rattle.link_laws.specs.Coming.{coming}
 use Rattle.page_protocol.specs.State.{Ended, Page}
 use Rattle.page_relation.specs.Messages.{ChangeHas}
 use Rattle.work_relation.specs.Events.{IsEntered}
+use Rattle.work_relation.specs.Landing.{land}
 
 -- The end of t is still to be told of a page, with this change, to the table of the era that its node has reached. The owner's
 -- dirty copy is newer than the entry only where it is the change of the own page that the node serves.
@@ -41,3 +45,7 @@ abbrev pub AreOwed : Type 0 → Bool → ℕ → TxId → ℕ → List Ending �
 AreOwed Before owned n t p [] a = IsEntered a
 AreOwed Before owned n t p (x ∷ es) a =
     choose (x.page == p) (IsOwed owned n t x.kind x.change a × IsAbsent p es × Before) (AreOwed Before owned n t p es a)
+
+-- what comes is what came before the step
+abbrev pub SameComing : Cluster → Event → ℕ → ℕ → Work → Type 0
+SameComing c e n p w = (y z : ℕ) → coming (land c e n w) p y z ≡ coming c p y z
