@@ -1,5 +1,5 @@
 -- What is known of the work once a transaction was closed and answered, whatever page.
-use Rattle.std.proofs.Common.{◌≡◌, refl, sym, ap, subst, ◌∙◌, ℕ, ◌≤◌, ◌==◌, Bool, true, false, List, [], ◌∷◌, length, Option, Some, None, is_some, arith, eqb-true}
+use Rattle.std.proofs.Common.{◌≡◌, refl, sym, ap, subst, ◌∙◌, ℕ, ◌==◌, Bool, true, false, List, [], ◌∷◌, length, Option, Some, None, is_some, arith, eqb-true}
 use Rattle.std.specs.Prelude.{IfSome}
 use Rattle.pcl_base.specs.Limits.{Sizes}
 use Rattle.pcl_base.specs.declared.event.Event.{Event}
@@ -131,7 +131,9 @@ module _ (c : Cluster) (e : Event) (n : ℕ) (s : NodeState) (b : Bool) (t : TxI
         in_view = may.in_view;
         there = subst (λ (o : Option View). IfSome o (λ (u : View). view_of_epoch c.views s.epoch ≡ Some u)) may.in_view member.view;
         made = member.reached;
-        rises = subst (λ (o : Option NodeState). IfSome o (λ (x : NodeState). x.epoch ≤ s.epoch)) (sym h.up) (omega arith);
+        start = s;
+        up = h.up;
+        rises = omega arith;
         good = over_good;
         called = is.pages ∙ sym (ap (λ (ds : List DiskCall). (all_done n c.disk ds).pages) is.calls ∙ calls_pages n c.disk b s t);
         asked = after;

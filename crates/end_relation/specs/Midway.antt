@@ -39,7 +39,9 @@ pub record IsMidway (b : Base) (c : Cluster) (e : Event) (n : ℕ) (w : Work) : 
   pub in_view : b.view ≡ Some view
   pub there : view_of_epoch c.views b.epoch ≡ Some view
   pub made : b.epoch ≤ (last_view c).epoch
-  pub rises : IfSome (node_at c n) (λ (s : NodeState). s.epoch ≤ b.epoch)
+  pub start : NodeState
+  pub up : node_at c n ≡ Some start
+  pub rises : start.epoch ≤ b.epoch
   pub good : IsGood b w
   pub called : CalledBy n c.disk (work_of_home w)
   pub asked : (t : TxId) → IfSome (pending_of w.node.home.txs t) (λ (x : Pending). x.write ≡ asked_last t (trace_of c e n w))
