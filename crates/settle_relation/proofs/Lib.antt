@@ -1,0 +1,17 @@
+pub mod Counting
+pub mod Deciding
+pub mod Midway
+pub mod Carrying
+pub mod Elsewhere
+pub mod Fitting
+pub mod Rewinding
+pub mod Changing
+pub mod Decisions
+pub mod OwnGrants
+pub mod Turns
+pub mod Entering
+pub mod Requesting
+pub mod Answering
+pub mod Returning
+pub mod Agreeing
+pub mod Reading
