@@ -85,6 +85,8 @@ module _ (b : Base) (c : Cluster) (e : Event) (n : ℕ) where
         in_view = i.in_view;
         there = i.there;
         made = i.made;
+        start = i.start;
+        up = i.up;
         rises = i.rises;
         good = good;
         called = called;
