@@ -63,7 +63,7 @@ step_shared {a} (commits t ranges h w f) all = all
 step_shared {a} (grants_lock t m w s n l f k) all = all
 step_shared {a} (gives_right t w s n r f k) all = changed a.right t.node (Flying (record { tx = t; mode = Shared; version = a.entry; word = w })) all refl
 step_shared {a} (revokes n v readers r e f) all = changed a.right n (Returning (suc a.era) readers) all tt
-step_shared {a} (turns n v upto readers r p f) all = changed a.right n (Returning upto readers) all tt
+step_shared {a} (turns n v e readers r p q f) all = changed a.right n (Returning e readers) all tt
 step_shared {a} (returns_right n readers r) all = changed a.right n NoRight all tt
 step_shared {a} (drops_right n r) all = changed a.right n NoRight all tt
 step_shared {a} (drops_grant n g r) all = changed a.right n NoRight all tt

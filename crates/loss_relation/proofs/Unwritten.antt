@@ -125,7 +125,7 @@ step_unwritten {a} (grants_lock t m w served nobody alone begun fits) old = old
 step_unwritten {a} (gives_right t w served nobody none begun fits) old = old
 step_unwritten {a} (revokes n v readers shelf takes all) old =
     λ u. by_test (eqb u.node n) (λ h. Unwritten h (a.script u)) (registered (a.home u)) (a.home u) (λ e. registered_unwritten (a.home u) (a.script u) (old u)) (λ e. old u)
-step_unwritten {a} (turns n v upto readers shelf less all) old =
+step_unwritten {a} (turns n v e readers shelf over less all) old =
     λ u. by_test (eqb u.node n) (λ h. Unwritten h (a.script u)) (registered (a.home u)) (a.home u) (λ e. registered_unwritten (a.home u) (a.script u) (old u)) (λ e. old u)
 step_unwritten {a} (returns_right n readers e) old = old
 step_unwritten {a} (drops_right n e) old = old

@@ -2,6 +2,7 @@
 use Rattle.std.specs.Prelude.{ℕ, List}
 use Rattle.std.proofs.Common.{suc, refl, arith}
 use mathlib.Core.Logic.{inl}
+use Rattle.page_protocol.specs.Authority.{spending}
 use Rattle.page_protocol.specs.Invariant.{Inv}
 use Rattle.page_protocol.specs.State.{Page, opening}
 use Rattle.page_protocol.specs.Steps.{Step, asks, retells, upgrades, upgrades_reader, accepts, takes_right, keeps_right, reads_under, reads, writes_piece, ends_open, commits_reads, commits, grants_lock, gives_right, revokes, turns, returns_right, drops_right, drops_grant, drops_answer, releases, releases_change, releases_to_disk, releases_early, loses, crashes, falls, purges, redoes, purges_early, reports, joins, completes, restores, flushes, evicts, cuts, Run, here, then, Reached}
@@ -12,6 +13,7 @@ use Rattle.page_protocol.proofs.KeepsEras.{keeps_crashes, keeps_falls, keeps_pur
 use Rattle.page_protocol.proofs.KeepsCommits.{keeps_commits}
 
 pub keeps : (blank : List ℕ) {a b : Page} → Step a b → Inv blank a → Inv blank b
+unfolding spending
 keeps blank {a} (asks t m e) i = keeps_asks blank a i t m e
 keeps blank {a} (retells t m h e) i = keeps_retells blank a i t m h e
 keeps blank {a} (upgrades t e) i = keeps_upgrades blank a i t e
@@ -28,7 +30,7 @@ keeps blank {a} (commits t ranges h w f) i = keeps_commits blank a i t ranges h 
 keeps blank {a} (grants_lock t m w s n l f k) i = keeps_grants blank a i t m w s n l f k
 keeps blank {a} (gives_right t w s n r f k) i = keeps_gives blank a i t w s n r f k
 keeps blank {a} (revokes n v readers r e f) i = keeps_spends blank a i n v (suc a.era) readers r (omega arith) f
-keeps blank {a} (turns n v upto readers r p f) i = keeps_spends blank a i n v upto readers r p f
+keeps blank {a} (turns n v e readers r p q f) i = keeps_reports blank (spending a n e readers) (keeps_spends blank a i n v e readers r q f) n e p q
 keeps blank {a} (returns_right n readers r) i = keeps_returns blank a i n readers r
 keeps blank {a} (drops_right n r) i = keeps_drops blank a i n r
 keeps blank {a} (drops_grant n g r) i = keeps_drops_grant blank a i n g r

@@ -12,5 +12,6 @@ pub mod KeepsEras
 pub mod KeepsStorage
 pub mod Keeps
 pub mod Promises
+pub mod GivenBack
 pub mod RowRuns
 pub mod MoreRuns

@@ -5,7 +5,7 @@ use Rattle.pcl_base.specs.declared.tx.TxId.{TxId}
 use Rattle.pcl_base.specs.declared.tx.Mode.TheVariants.{Exclusive}
 use Rattle.page_protocol.specs.Invariant.{Logged, Inv}
 use Rattle.page_protocol.specs.Homes.{Waits, Takes, seen}
-use Rattle.page_protocol.specs.State.{Sent, Shelf, Holding, Free, lock_of, Page, current, In, IsGranted, IsShelf, version_of, told_copy}
+use Rattle.page_protocol.specs.State.{Sent, Shelf, Returning, Holding, Free, lock_of, Page, current, In, IsGranted, IsShelf, version_of, told_copy}
 use Rattle.page_protocol.specs.Steps.{Step, Reached}
 use Rattle.page_protocol.specs.Bytes.{Copy, Ranges, put_all, Access, Leaves, Replays}
 
@@ -59,6 +59,10 @@ BringsCurrent a g =
 -- A right on a shelf has the current version.
 abbrev pub RightsAreCurrent : Page → Type 0
 RightsAreCurrent a = (n v : ℕ) → a.right n ≡ Shelf v → v ≡ a.now
+
+-- A right that was given back was given back for no era above the one after that which its node has reached.
+abbrev pub IsGivenBackInTime : Page → Type 0
+IsGivenBackInTime a = (n upto : ℕ) (readers : List TxId) → a.right n ≡ Returning upto readers → upto ≤ suc (a.reached n)
 
 -- From one page to a later one the current version doesn't fall, the bytes of a version that there was
 -- stay, and so do the commits.

@@ -47,8 +47,8 @@ pub data Step (a : Page) : Page → Type 0 where
   gives_right : (t : TxId) (w : Word) → a.served ≡ true → NobodyWrites a → a.right t.node ≡ NoRight → (IsFresh (a.home t) → ⊥) → WordFits a t w → Step a (giving a t w)
   -- A revocation comes to a node with a right, which answers with its readers.
   revokes : (n v : ℕ) (readers : List TxId) → a.right n ≡ Shelf v → Takes a n → NamesAll a n readers → Step a (spending a n (suc a.era) readers)
-  -- A node that is to own a later era turns its right into locks.
-  turns : (n v upto : ℕ) (readers : List TxId) → a.right n ≡ Shelf v → a.reached n < upto → NamesAll a n readers → Step a (spending a n upto readers)
+  -- A node that is to own a later era turns its right into locks, and goes on to that era.
+  turns : (n v e : ℕ) (readers : List TxId) → a.right n ≡ Shelf v → a.era ≤ a.reached n → a.reached n < e → NamesAll a n readers → Step a (reporting (spending a n e readers) n e)
   -- The answer to a revocation comes to the table.
   returns_right : (n : ℕ) (readers : List TxId) → a.right n ≡ Returning (suc a.era) readers → Step a (returning a n readers)
   -- A right that was lost with its node leaves the table.

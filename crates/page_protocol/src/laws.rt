@@ -5,7 +5,7 @@ ghost use Rattle.std.specs.Prelude.{ℕ, List};
 ghost use Rattle.pcl_base.specs.declared.tx.TxId.{TxId};
 ghost use Rattle.page_protocol.specs.State.{Page, Sent};
 ghost use Rattle.page_protocol.specs.Steps.{Run, Reached};
-ghost use Rattle.page_protocol.specs.Laws.{StepsKeep, RunsKeep, IsSerial, IsFreshAt, IsDurable, IsLoggedOnce, IsAlone, BringsCurrent, RightsAreCurrent, HistoryStays};
+ghost use Rattle.page_protocol.specs.Laws.{StepsKeep, RunsKeep, IsSerial, IsFreshAt, IsDurable, IsLoggedOnce, IsAlone, BringsCurrent, RightsAreCurrent, IsGivenBackInTime, HistoryStays};
 
 /// Every step keeps the invariant, from every state that has it.
 pub fn steps_keep_the_invariant()
@@ -52,6 +52,11 @@ pub fn grants_bring_the_current_page()
 /// A right on a shelf has the current version.
 pub fn rights_are_current()
     ensures { (blank : List ℕ) (a : Page) → Reached blank a → RightsAreCurrent a }
+{}
+
+/// A right that was given back was given back for no era above the one after that which its node has reached.
+pub fn rights_are_given_back_in_time()
+    ensures { (blank : List ℕ) (a : Page) → Reached blank a → IsGivenBackInTime a }
 {}
 
 /// No run changes the bytes of a version that there is, takes a version back, or takes back a commit.
