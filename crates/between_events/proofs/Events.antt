@@ -33,12 +33,12 @@ use Rattle.work_relation.proofs.Ended.{end_is_landed_law}
 use Rattle.work_relation.proofs.Revoking.{revoke_is_kept_law}
 use Rattle.work_relation.proofs.Simple.{evict_is_kept_law, flush_is_kept_law, cut_is_kept_law, untaken_is_kept_law}
 use Rattle.related_runs.specs.RunLaws.{IsOfRun, LeavesPages}
-use Rattle.between_events.specs.Between.{StepsHaveWrites}
 use Rattle.between_events.specs.Events.{IsMade, Leads, ActsByEvent, EventsAreAll}
 use Rattle.between_events.proofs.Leaving.{pages_are_between_law}
 use Rattle.between_events.proofs.Losing.{lost_kinds_are_left_law, halted_pages_are_left_law}
 use Rattle.between_events.proofs.Quiet.{quiet_kinds_are_left_law}
 use Rattle.between_events.proofs.Seen.{entered_is_seen_law}
+use Rattle.between_events.proofs.Stepped.{steps_have_writes_law}
 use Rattle.between_events.proofs.Wrote.{runs_have_writes_law}
 
 -- ---- the message that a node takes
@@ -78,7 +78,7 @@ delivered c (event.Deliver a b) n s from m h = by (is_some s.view) (head_at c.li
         let message : k ≡ m = cc in
         sym (ap (λ (x : ℕ). head_at c.links x n) source) ∙ sym (ap (head_at c.links a) acts) ∙ at ∙ ap Some message
 
-module _ (blank : List ℕ) (keeps : StepsHaveWrites) (k : ActsByEvent blank) (c : Cluster) (is : IsOfRun blank c) where
+module _ (blank : List ℕ) (k : ActsByEvent blank) (c : Cluster) (is : IsOfRun blank c) where
   -- a page whose state stays
   stays : (e : Event) (p : ℕ) → p < c.config.pages → IsPageOf (step c e) p (is.related.pages.page p) → Follows p IsEntered (is.related.pages.page p) (step c e)
   stays e p low related = record { page = is.related.pages.page p; run = no_step; related = related; known = is.between.entered p low }
@@ -139,7 +139,7 @@ module _ (blank : List ℕ) (keeps : StepsHaveWrites) (k : ActsByEvent blank) (c
       (λ p low. (let f = leads p low in record { page = f.page; run = f.run; related = f.related })))
       (λ m p low.
       (let f = leads p (subst (λ (x : Sizes). p < x.pages) (sizes_stay_law c e) low) in entered_is_seen_law (step c e) p m f.page f.related f.known))
-      (keeps c e is.related.cluster is.related.asked (runs_have_writes_law blank c is))
+      (steps_have_writes_law c e is.related.cluster is.related.asked (runs_have_writes_law blank c is))
 
   acted_left : (e : Event) (n : ℕ) (s : NodeState) (ev : NodeEvent) (w : Work) → IsMade c e n s ev w → LeavesPages blank (made e n (plan_of w) c)
   unfolding land
@@ -172,7 +172,7 @@ module _ (blank : List ℕ) (keeps : StepsHaveWrites) (k : ActsByEvent blank) (c
     any_stop Cut h goes stops = quiet_stop Cut h goes stops tt
 
 pub events_are_all_law : EventsAreAll
-events_are_all_law blank keeps k =
+events_are_all_law blank k =
     record {
       refused = λ c e r is. (quiet_kinds_are_left_law blank c is).refused e r;
       crashed = λ c n is. (lost_kinds_are_left_law blank c is).crashed n;
@@ -180,7 +180,7 @@ events_are_all_law blank keeps k =
       viewed = λ c live owners v is made drops. (quiet_kinds_are_left_law blank c is).viewed live owners v made drops;
       reopened = λ c v is made down. (quiet_kinds_are_left_law blank c is).reopened v made down;
       differs = λ c e n s ev is h. (lost_kinds_are_left_law blank c is).differs e n s ev h;
-      stopped = λ c e n s ev p l is h goes stops. any_stop blank keeps k c is e n s p l ev h goes stops;
+      stopped = λ c e n s ev p l is h goes stops. any_stop blank k c is e n s p l ev h goes stops;
       refused_there = λ c e n s ev r is h refused. (quiet_kinds_are_left_law blank c is).refused_there e n s ev r h refused;
-      acted = λ c e n s ev w is h free goes whole. acted_left blank keeps k c is e n s ev w (record { handed = h; free = free; goes = goes; whole = whole });
+      acted = λ c e n s ev w is h free goes whole. acted_left blank k c is e n s ev w (record { handed = h; free = free; goes = goes; whole = whole });
     }

@@ -83,7 +83,7 @@ lost_entered ss n q p all m = by_lost ss n m (λ b o. EnteredIn q p o) (λ e. no
 
 -- ---- a node that starts
 
-not_locked : (own : Bool) (k p : ℕ) → is_exclusive_lock (lock_on (pages_of_open (pick own (with_serial [] k) None)) p) ≡ true → ⊥
+pub not_locked : (own : Bool) (k p : ℕ) → is_exclusive_lock (lock_on (pages_of_open (pick own (with_serial [] k) None)) p) ≡ true → ⊥
 unfolding with_serial lock_on
 not_locked true k p e = cc
 not_locked false k p e = cc

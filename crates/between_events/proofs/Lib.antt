@@ -4,3 +4,12 @@ pub mod Leaving
 pub mod Quiet
 pub mod Losing
 pub mod Events
+pub mod Marks
+pub mod Granting
+pub mod Owning
+pub mod Acting
+pub mod Starting
+pub mod Telling
+pub mod Stepping
+pub mod Installing
+pub mod Stepped

@@ -24,7 +24,6 @@ use Rattle.work_relation.specs.Events.{IsEntered}
 use Rattle.work_relation.specs.StepEnds.{start_of, Follows}
 use Rattle.related_runs.specs.Kinds.{StepsByKind}
 use Rattle.related_runs.specs.RunLaws.{IsOfRun}
-use Rattle.between_events.specs.Between.{StepsHaveWrites}
 
 -- a step that a node makes whole, on an event that isn't refused
 pub record IsMade (c : Cluster) (e : Event) (n : ℕ) (s : NodeState) (ev : NodeEvent) (w : Work) : Type 0 where
@@ -70,4 +69,4 @@ pub record ActsByEvent (blank : List ℕ) : Type 0 where
 
 -- Then all kinds of steps are shown.
 abbrev pub EventsAreAll : Type 0
-EventsAreAll = (blank : List ℕ) → StepsHaveWrites → ActsByEvent blank → StepsByKind blank
+EventsAreAll = (blank : List ℕ) → ActsByEvent blank → StepsByKind blank
