@@ -33,7 +33,8 @@ use Rattle.work_relation.proofs.Ended.{end_is_landed_law}
 use Rattle.work_relation.proofs.Revoking.{revoke_is_kept_law}
 use Rattle.work_relation.proofs.Simple.{evict_is_kept_law, flush_is_kept_law, cut_is_kept_law, untaken_is_kept_law}
 use Rattle.related_runs.specs.RunLaws.{IsOfRun, LeavesPages}
-use Rattle.between_events.specs.Events.{IsMade, Leads, ActsByEvent, EventsAreAll}
+use Rattle.related_runs.proofs.AllKinds.{kinds_are_all_law}
+use Rattle.between_events.specs.Events.{IsMade, Leads, ActsByEvent, EventsAreAll, EventsKeepPages}
 use Rattle.between_events.proofs.Leaving.{pages_are_between_law}
 use Rattle.between_events.proofs.Losing.{lost_kinds_are_left_law, halted_pages_are_left_law}
 use Rattle.between_events.proofs.Quiet.{quiet_kinds_are_left_law}
@@ -184,3 +185,6 @@ events_are_all_law blank k =
       refused_there = λ c e n s ev r is h refused. (quiet_kinds_are_left_law blank c is).refused_there e n s ev r h refused;
       acted = λ c e n s ev w is h free goes whole. acted_left blank k c is e n s ev w (record { handed = h; free = free; goes = goes; whole = whole });
     }
+
+pub events_keep_pages_law : EventsKeepPages
+events_keep_pages_law blank k = kinds_are_all_law blank (events_are_all_law blank k)

@@ -23,7 +23,7 @@ use Rattle.page_relation.specs.Together.{HasPages}
 use Rattle.work_relation.specs.Events.{IsEntered}
 use Rattle.work_relation.specs.StepEnds.{start_of, Follows}
 use Rattle.related_runs.specs.Kinds.{StepsByKind}
-use Rattle.related_runs.specs.RunLaws.{IsOfRun}
+use Rattle.related_runs.specs.RunLaws.{IsOfRun, StepsKeepPages}
 
 -- a step that a node makes whole, on an event that isn't refused
 pub record IsMade (c : Cluster) (e : Event) (n : ℕ) (s : NodeState) (ev : NodeEvent) (w : Work) : Type 0 where
@@ -70,3 +70,7 @@ pub record ActsByEvent (blank : List ℕ) : Type 0 where
 -- Then all kinds of steps are shown.
 abbrev pub EventsAreAll : Type 0
 EventsAreAll = (blank : List ℕ) → ActsByEvent blank → StepsByKind blank
+
+-- So each step keeps the pages of a cluster of a run.
+abbrev pub EventsKeepPages : Type 0
+EventsKeepPages = (blank : List ℕ) → ActsByEvent blank → StepsKeepPages blank

@@ -1,7 +1,7 @@
 //! Laws of the kinds of steps.
 
 ghost use Rattle.between_events.specs.Whole.{HaltedPagesAreLeft, LostKindsAreLeft, PagesAreBetween, QuietKindsAreLeft};
-ghost use Rattle.between_events.specs.Events.{EventsAreAll};
+ghost use Rattle.between_events.specs.Events.{EventsAreAll, EventsKeepPages};
 
 /// A cluster whose pages are related has them as they are between two events, where no dirty copy is newer than its entry and
 /// who holds a page exclusively has written it.
@@ -27,4 +27,9 @@ pub fn halted_pages_are_left()
 /// All kinds of steps are shown where the events are that are left.
 pub fn events_are_all()
     ensures { EventsAreAll }
+{}
+
+/// So each step keeps the pages of a cluster of a run related.
+pub fn events_keep_pages()
+    ensures { EventsKeepPages }
 {}

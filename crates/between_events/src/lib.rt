@@ -12,8 +12,8 @@ mod kinds;
 mod parts;
 
 pub use kinds::{
-    events_are_all, halted_pages_are_left, lost_kinds_are_left, pages_are_between,
-    quiet_kinds_are_left,
+    events_are_all, events_keep_pages, halted_pages_are_left, lost_kinds_are_left,
+    pages_are_between, quiet_kinds_are_left,
 };
 pub use parts::{
     entered_is_seen, opening_has_writes, runs_have_writes, seen_is_entered, steps_have_writes,
