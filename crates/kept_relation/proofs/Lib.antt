@@ -1,0 +1,12 @@
+pub mod Running
+pub mod Saying
+pub mod Purged
+pub mod Redoes
+pub mod OwnRedo
+pub mod Among
+pub mod AllRedo
+pub mod Clear
+pub mod Serving
+pub mod Unlisted
+pub mod Spared
+pub mod Cleared

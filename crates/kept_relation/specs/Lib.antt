@@ -1,0 +1,7 @@
+pub mod Emptying
+pub mod Purging
+pub mod Redoing
+pub mod Clearing
+pub mod Gone
+pub mod Sparing
+pub mod Known
