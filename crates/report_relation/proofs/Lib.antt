@@ -1,0 +1,10 @@
+pub mod Gathered
+pub mod Tabled
+pub mod Reporting
+pub mod Reaching
+pub mod Ready
+pub mod Restored
+pub mod Each
+pub mod Served
+pub mod AllSettled
+pub mod RedoMidway

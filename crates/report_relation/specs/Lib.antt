@@ -1,0 +1,6 @@
+pub mod Gathering
+pub mod Completing
+pub mod Redoing
+pub mod Serving
+pub mod Settled
+pub mod RedoneMidway
