@@ -1,0 +1,9 @@
+pub mod Steps
+pub mod Simple
+pub mod Accesses
+pub mod Messages
+pub mod Ends
+pub mod Whole
+pub mod Agreeing
+pub mod Answering
+pub mod Pages
