@@ -1,0 +1,40 @@
+-- What is still to show for whole runs, and what follows from it.
+use Rattle.std.specs.Prelude.{◌≡◌, ℕ, List}
+use Rattle.std.specs.List.{AllByRecursion}
+use Rattle.pcl_base.specs.Limits.{Sizes, InLimits}
+use Rattle.pcl_base.specs.declared.event.Event.{Event}
+use Rattle.pcl_base.specs.declared.message.Body.TheVariants as body
+use Rattle.pcl_base.specs.declared.message.Message.{Message}
+use Rattle.pcl_base.specs.declared.message.Report.{Report}
+use Rattle.run_rules.specs.Views.{View}
+use Rattle.node_rules.specs.NodeState.{NodeState, NodeEvent, Deliver, Install}
+use Rattle.node_rules.specs.NodeStep.{nodestep}
+use Rattle.node_rules.specs.Work.{Differs}
+use Rattle.cluster_rules.specs.Clusters.{Cluster}
+use Rattle.cluster_rules.specs.Run.{run}
+use Rattle.cluster_laws.specs.Handed.{IsHanded}
+use Rattle.page_relation.specs.Laws.{blank}
+use Rattle.loss_relation.specs.Writes.{RedoesNothing}
+use Rattle.related_runs.specs.RunLaws.{IsOfRun, IsTrue, StepsKeepPages}
+use Rattle.between_events.specs.Events.{ActsOn, TakesIn, StopsIn}
+
+-- The events that may redo pages: an install, and a report that is taken, made whole or ended by a stop.
+pub record RedoingKeeps (blank : List ℕ) : Type 0 where
+  pub installs : (v : View) → ActsOn blank (Install v)
+  pub reports : (from : ℕ) (m : Message) (r : Report) → m.body ≡ body.Report r → TakesIn blank from m
+  pub stopped_installs : (v : View) → StopsIn blank (Install v)
+  pub stopped_reports : (from : ℕ) (m : Message) (r : Report) → m.body ≡ body.Report r → StopsIn blank (Deliver from m)
+
+-- Where these keep the pages of a cluster of a run, each step does.
+abbrev pub RedoingIsLeft : Type 0
+RedoingIsLeft = (blank : List ℕ) → RedoingKeeps blank → StepsKeepPages blank
+
+-- Then every cluster of a run is fresh, serial and durable.
+abbrev pub RunsAreTrueButForRedoing : Type 0
+RunsAreTrueButForRedoing = (c : Sizes) (es : List Event) → InLimits c → RedoingKeeps (blank c) → AllByRecursion IsTrue (run c es)
+
+-- No page differs in the step of a node on any other event.
+abbrev pub OnlyRedoingDiffers : Type 0
+OnlyRedoingDiffers =
+    (blank : List ℕ) (c : Cluster) (e : Event) (n : ℕ) (s : NodeState) (ev : NodeEvent) (page expected found : ℕ) → IsOfRun blank c → IsHanded c e n s ev
+    → RedoesNothing ev → nodestep s ev c.disk ≡ Differs page expected found → ⊥
