@@ -8,3 +8,5 @@ pub mod Each
 pub mod Served
 pub mod AllSettled
 pub mod RedoMidway
+pub mod Listed
+pub mod AllRedone

@@ -4,3 +4,4 @@ pub mod Redoing
 pub mod Serving
 pub mod Settled
 pub mod RedoneMidway
+pub mod AllRedone

@@ -14,4 +14,4 @@ pub use completing::{
     all_are_settled, completing_is_step, others_have_reached, ready_may_complete, up_have_reached,
 };
 pub use gathering::{gathering_is_related, report_is_gathered};
-pub use redoing::{redo_agrees, redo_is_midway, redo_is_related};
+pub use redoing::{all_are_redone, redo_agrees, redo_is_midway, redo_is_related};

@@ -1,5 +1,6 @@
 //! The redo of pages whose table is being rebuilt, each law as the clause of an empty function.
 
+ghost use Rattle.report_relation.specs.AllRedone.{AllAreRedone};
 ghost use Rattle.report_relation.specs.RedoneMidway.{RedoIsMidway};
 ghost use Rattle.report_relation.specs.Redoing.{RedoAgrees, RedoIsRelated};
 
@@ -16,4 +17,9 @@ pub fn redo_is_related()
 /// What is known of a work inside a step stays through the redo of a page.
 pub fn redo_is_midway()
     ensures { RedoIsMidway }
+{}
+
+/// The redo of all pages of its partition keeps the relation of a page, and leaves it on disk as it is now.
+pub fn all_are_redone()
+    ensures { AllAreRedone }
 {}
