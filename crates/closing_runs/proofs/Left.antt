@@ -12,6 +12,7 @@ use Rattle.loss_relation.specs.Writes.{IsNoReport, RedoesNothing}
 use Rattle.related_runs.proofs.GoingOn.{runs_are_true_law}
 use Rattle.between_events.specs.Events.{ActsByEvent, ActsOn, TakesIn}
 use Rattle.between_events.proofs.Events.{events_keep_pages_law}
+use Rattle.redo_halts.proofs.Stopping.{report_stops_are_related_law}
 use Rattle.acted_events.proofs.Answering.{no_act_differs_law}
 use Rattle.acted_events.proofs.Whole.{acted_is_kept_law}
 use Rattle.closing_runs.specs.Closing.{RedoingKeeps, RedoingIsLeft, RunsAreTrueButForRedoing, OnlyRedoingDiffers}
@@ -39,7 +40,7 @@ acts blank k =
       returns = λ from m r same. takes_in blank from m _ same tt;
       reports = k.reports;
       stopped_installs = k.stopped_installs;
-      stopped_reports = k.stopped_reports;
+      stopped_reports = report_stops_are_related_law blank;
     }
 
 pub redoing_is_left_law : RedoingIsLeft

@@ -7,7 +7,7 @@ use Rattle.pcl_base.specs.declared.message.Body.TheVariants as body
 use Rattle.pcl_base.specs.declared.message.Message.{Message}
 use Rattle.pcl_base.specs.declared.message.Report.{Report}
 use Rattle.run_rules.specs.Views.{View}
-use Rattle.node_rules.specs.NodeState.{NodeState, NodeEvent, Deliver, Install}
+use Rattle.node_rules.specs.NodeState.{NodeState, NodeEvent, Install}
 use Rattle.node_rules.specs.NodeStep.{nodestep}
 use Rattle.node_rules.specs.Work.{Differs}
 use Rattle.cluster_rules.specs.Clusters.{Cluster}
@@ -18,12 +18,11 @@ use Rattle.loss_relation.specs.Writes.{RedoesNothing}
 use Rattle.related_runs.specs.RunLaws.{IsOfRun, IsTrue, StepsKeepPages}
 use Rattle.between_events.specs.Events.{ActsOn, TakesIn, StopsIn}
 
--- The events that may redo pages: an install, and a report that is taken, made whole or ended by a stop.
+-- What is left: an install, made whole or ended by a stop, and a report that is taken.
 pub record RedoingKeeps (blank : List ℕ) : Type 0 where
   pub installs : (v : View) → ActsOn blank (Install v)
   pub reports : (from : ℕ) (m : Message) (r : Report) → m.body ≡ body.Report r → TakesIn blank from m
   pub stopped_installs : (v : View) → StopsIn blank (Install v)
-  pub stopped_reports : (from : ℕ) (m : Message) (r : Report) → m.body ≡ body.Report r → StopsIn blank (Deliver from m)
 
 -- Where these keep the pages of a cluster of a run, each step does.
 abbrev pub RedoingIsLeft : Type 0

@@ -1,0 +1,5 @@
+pub mod Walked
+pub mod Resting
+pub mod Serving
+pub mod Reported
+pub mod Stopping

@@ -1,0 +1,84 @@
+-- A stop in a step that may redo pages.
+use Rattle.std.proofs.Common.{◌≡◌, ◌≢◌, refl, sym, ap, subst, ◌∙◌, ℕ, List, [], ◌∷◌, ◌++◌, Option, Some, None}
+use Rattle.std.specs.List.{AllByRecursion, fold}
+use Rattle.pcl_base.specs.declared.reply.Reason.{Reason}
+use Rattle.pcl_base.specs.declared.tx.TxId.{TxId}
+use Rattle.text_rules.specs.LogRecord.{whole_len}
+use Rattle.run_rules.specs.Disk.{Disk}
+use Rattle.node_rules.specs.DiskCalls.{DiskCall, WritePage, Force, TrimLog, CutLog, forced}
+use Rattle.node_rules.specs.NodeState.{NodeState, NodeEvent, Commit, Deliver}
+use Rattle.node_rules.specs.NodeStep.{Plan, begin_work, do_event, unless_refused, plan_of, nodestep}
+use Rattle.node_rules.specs.Refusals.{refusal}
+use Rattle.node_rules.specs.Work.{Work, Goes}
+use Rattle.step_laws.proofs.Outcomes.{On, on_so}
+use Rattle.call_laws.specs.Calls.{IsWrite, log_of_node, log_calls, BeginsWith}
+use Rattle.call_laws.proofs.Events.{steps_begin_with_logs_law}
+use Rattle.page_protocol.specs.State.{Page}
+use Rattle.storage_laws.specs.Stored.{forced_by}
+use Rattle.loss_relation.specs.Writes.{MayWrite, elsewhere, PastForce, unforced, past}
+use Rattle.loss_relation.proofs.Dirty.{may_front}
+use Rattle.loss_relation.proofs.Halted.{halted_is_related_law}
+use Rattle.loss_relation.proofs.Stops.{FirstCall, no_call, forces, trims, cuts_off, first_call}
+use Rattle.between_events.proofs.Losing.{scripts_fit}
+use Rattle.redo_halts.specs.Stops.{ReportsWriteVersions, ReportStopsAreRelated}
+use Rattle.redo_halts.proofs.Reported.{event_may}
+use Rattle.redo_halts.proofs.Walked.{May}
+
+-- ---- such a step forces nothing
+
+writes_none : (was : Option TxId) (xs ys : List DiskCall) → AllByRecursion IsWrite (xs ++ ys) → fold forced was xs ≡ was
+writes_none was [] ys all = refl
+writes_none was (WritePage q bytes ∷ xs) ys all = writes_none was xs ys all.1
+writes_none was (Force t bytes ∷ xs) ys all = absurd all.0
+writes_none was (TrimLog keep ∷ xs) ys all = absurd all.0
+writes_none was (CutLog count ∷ xs) ys all = absurd all.0
+
+behind_none : (call : DiskCall) (writes front back : List DiskCall) → forced None call ≡ None → AllByRecursion IsWrite writes → call ∷ writes ≡ front ++ back → forced_by front ≡ None
+behind_none call writes [] back quiet all parts = refl
+behind_none call writes (y ∷ front) back quiet all parts =
+    let one : call ≡ y = cc in
+    let rest : writes ≡ front ++ back = cc in
+    ap (λ (z : DiskCall). fold forced (forced None z) front) (sym one) ∙ ap (λ (o : Option TxId). fold forced o front) quiet ∙ writes_none None front back (subst (AllByRecursion IsWrite) rest all)
+
+fronts_none : (s : NodeState) (d : Disk) (ev : NodeEvent) (first writes front back : List DiskCall) → ((t : TxId) → ev ≢ Commit t) → FirstCall s d ev first → AllByRecursion IsWrite writes → first ++ writes ≡ front ++ back
+    → forced_by front ≡ None
+fronts_none s d ev first writes front back other no_call all parts = writes_none None front back (subst (AllByRecursion IsWrite) parts all)
+fronts_none s d ev first writes front back other (forces t is allowed some) all parts = absurd (other t is)
+fronts_none s d ev first writes front back other trims all parts = behind_none (TrimLog (whole_len s.home.config (log_of_node s d))) writes front back refl all parts
+fronts_none s d ev first writes front back other (cuts_off count goes) all parts = behind_none (CutLog count) writes front back refl all parts
+
+past_none : (a b : Page) (o : Option TxId) → PastForce a o b → o ≡ None → b ≡ a
+past_none a b None unforced e = refl
+past_none a b (Some t) (past u k step) e = absurd (cc)
+
+-- what a plan has
+planned_may : (s : NodeState) (ev : NodeEvent) (d : Disk) (plan : Plan) (P : List DiskCall → Type 0) → nodestep s ev d ≡ Goes plan → P [] → On (λ (w : Work). P w.calls) (do_event d ev (begin_work s d)) → P plan.calls
+unfolding nodestep
+planned_may s ev d plan P goes none on =
+    subst (On (λ (q : Plan). P q.calls)) goes
+    (on_so (λ (w : Work). P w.calls) (λ (q : Plan). P q.calls) (unless_refused (refusal s ev) d ev (begin_work s d)) plan_of (by (refusal s ev)) (λ w x. x))
+  where
+    by : (o : Option Reason) → On (λ (w : Work). P w.calls) (unless_refused o d ev (begin_work s d))
+    by (Some r) = none
+    by None = on
+
+-- each beginning of its calls writes as they do
+pub beginnings_may : (s : NodeState) (ev : NodeEvent) (d : Disk) (plan : Plan) (p n : ℕ) (a b : Page) (front back : List DiskCall) → ((t : TxId) → ev ≢ Commit t) → nodestep s ev d ≡ Goes plan → plan.calls ≡ front ++ back
+    → PastForce a (forced_by front) b → On (May a p n) (do_event d ev (begin_work s d)) → MayWrite b p n front
+beginnings_may s ev d plan p n a b front back other goes parts at on =
+    subst (λ (k : Page). MayWrite k p n front)
+    (sym (past_none a b (forced_by front) at (fronts_none s d ev (log_calls s d ev) begins.writes front back other (first_call s d ev) begins.all (sym begins.joined ∙ parts))))
+    (may_front a p n front back (subst (MayWrite a p n) parts (planned_may s ev d plan (MayWrite a p n) goes (elsewhere tt) on)))
+  where
+    begins : BeginsWith (log_calls s d ev) plan.calls
+    begins = steps_begin_with_logs_law s ev d plan goes
+
+pub reports_write_versions_law : ReportsWriteVersions
+reports_write_versions_law blank c e n s from m x plan r planned body_is p front back b low parts at =
+    beginnings_may s (Deliver from m) c.disk plan p n (r.pages.page p) b front back (λ t same. absurd (cc)) planned.goes parts at
+    (event_may blank c e n p s from m x (r.pages.page p) r.cluster planned.handed (r.pages.reached p low) (r.pages.related p low) body_is)
+
+pub report_stops_are_related_law : ReportStopsAreRelated
+report_stops_are_related_law blank from m x body_is c e n s p l is h goes stops =
+    (halted_is_related_law blank c e n s (Deliver from m) p l is.related (record { handed = h; goes = goes }) stops (scripts_fit blank c is)
+    (reports_write_versions_law blank c e n s from m x p is.related (record { handed = h; goes = goes }) body_is)).pages
