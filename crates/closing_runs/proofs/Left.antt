@@ -3,7 +3,7 @@ use Rattle.std.proofs.Common.{◌≡◌, refl, sym, subst, ℕ, List, Option, So
 use Rattle.pcl_base.specs.declared.message.Body.{Body}
 use Rattle.pcl_base.specs.declared.message.Message.{Message}
 use Rattle.pcl_base.specs.declared.reply.Reason.{Reason}
-use Rattle.node_rules.specs.NodeState.{NodeEvent, Read, Write, Commit, Abort, Deliver}
+use Rattle.node_rules.specs.NodeState.{NodeState, NodeEvent, Read, Write, Commit, Abort, Deliver, Install}
 use Rattle.node_rules.specs.NodeStep.{begin_work, do_event, unless_refused, plan_of, nodestep}
 use Rattle.node_rules.specs.Refusals.{refusal}
 use Rattle.node_rules.specs.Work.{Outcome, Goes, Differs, Work, and_so}
@@ -12,7 +12,7 @@ use Rattle.loss_relation.specs.Writes.{IsNoReport, RedoesNothing}
 use Rattle.related_runs.proofs.GoingOn.{runs_are_true_law}
 use Rattle.between_events.specs.Events.{ActsByEvent, ActsOn, TakesIn}
 use Rattle.between_events.proofs.Events.{events_keep_pages_law}
-use Rattle.redo_halts.proofs.Stopping.{report_stops_are_related_law}
+use Rattle.redo_halts.proofs.Stopping.{all_stops_are_related_law}
 use Rattle.acted_events.proofs.Answering.{no_act_differs_law}
 use Rattle.acted_events.proofs.Whole.{acted_is_kept_law}
 use Rattle.closing_runs.specs.Closing.{RedoingKeeps, RedoingIsLeft, RunsAreTrueButForRedoing, OnlyRedoingDiffers}
@@ -39,8 +39,8 @@ acts blank k =
       releases = λ from m r same. takes_in blank from m _ same tt;
       returns = λ from m r same. takes_in blank from m _ same tt;
       reports = k.reports;
-      stopped_installs = k.stopped_installs;
-      stopped_reports = report_stops_are_related_law blank;
+      stopped_installs = λ v. all_stops_are_related_law blank (Install v);
+      stopped_reports = λ from m r same. all_stops_are_related_law blank (Deliver from m);
     }
 
 pub redoing_is_left_law : RedoingIsLeft

@@ -16,13 +16,12 @@ use Rattle.cluster_laws.specs.Handed.{IsHanded}
 use Rattle.page_relation.specs.Laws.{blank}
 use Rattle.loss_relation.specs.Writes.{RedoesNothing}
 use Rattle.related_runs.specs.RunLaws.{IsOfRun, IsTrue, StepsKeepPages}
-use Rattle.between_events.specs.Events.{ActsOn, TakesIn, StopsIn}
+use Rattle.between_events.specs.Events.{ActsOn, TakesIn}
 
--- What is left: an install, made whole or ended by a stop, and a report that is taken.
+-- What is left: an install, and a report that is taken, made whole.
 pub record RedoingKeeps (blank : List ℕ) : Type 0 where
   pub installs : (v : View) → ActsOn blank (Install v)
   pub reports : (from : ℕ) (m : Message) (r : Report) → m.body ≡ body.Report r → TakesIn blank from m
-  pub stopped_installs : (v : View) → StopsIn blank (Install v)
 
 -- Where these keep the pages of a cluster of a run, each step does.
 abbrev pub RedoingIsLeft : Type 0

@@ -1,6 +1,6 @@
 ghost use Rattle.closing_runs.specs.Closing.{RedoingIsLeft, RunsAreTrueButForRedoing, OnlyRedoingDiffers};
 
-/// Each step keeps the pages of a cluster of a run, where installs, stops in installs, and reports that are taken do.
+/// Each step keeps the pages of a cluster of a run, where installs and reports that are taken do.
 pub fn redoing_is_left()
     ensures { RedoingIsLeft }
 {}

@@ -1,6 +1,5 @@
 -- What a step on a report writes of a page.
-use Rattle.std.proofs.Common.{◌≡◌, ◌≢◌, refl, sym, ap, subst, ◌∙◌, ℕ, ◌<◌, ◌==◌, ◌&&◌, ◌||◌, not, nat_lt, Bool, true, false, List, Option, Some, None, is_some, length, arith, eqb-true, mod-lt}
-use Rattle.std.specs.List.{AllByRecursion}
+use Rattle.std.proofs.Common.{◌≡◌, ◌≢◌, refl, sym, ap, subst, ◌∙◌, ℕ, ◌<◌, ◌==◌, ◌&&◌, ◌||◌, nat_lt, Bool, true, false, List, Option, Some, None, is_some, length, arith, eqb-true, mod-lt}
 use Rattle.std.proofs.lemmas.Bool.Decides.{nat_tests}
 use Rattle.pcl_base.specs.Limits.{Sizes}
 use Rattle.pcl_base.specs.declared.event.Event.{Event}
@@ -11,19 +10,14 @@ use Rattle.pcl_base.specs.declared.message.Body.TheVariants as body
 use Rattle.pcl_base.specs.declared.message.Message.{Message}
 use Rattle.pcl_base.specs.declared.message.Report.{Report}
 use Rattle.text_rules.specs.MessageBytes.{IsBody}
-use Rattle.text_rules.specs.MessageBytes as bytes
-use Rattle.run_rules.specs.Redo.{redone, all_records}
 use Rattle.run_rules.specs.Views.{View, owner_of, since_of}
-use Rattle.node_rules.specs.InstallRule.{redo_page, owned_before, begin_serving, complete_if, is_complete, complete, take_report, on_report_in, on_report}
-use Rattle.node_rules.specs.LockTable.{LockTable, entry_at, marked, pages_of}
+use Rattle.node_rules.specs.InstallRule.{owned_before, is_complete, complete, take_report, on_report_in, on_report}
+use Rattle.node_rules.specs.LockTable.{LockTable, entry_at, marked}
 use Rattle.node_rules.specs.NodeState.{NodeState, Deliver, number_of, partition, table_at, put_table}
 use Rattle.node_rules.specs.NodeStep.{begin_work, partition_of, judge_in, work_off, by_verdict, take_message, do_event}
 use Rattle.node_rules.specs.Reports.{gather, missing}
-use Rattle.node_rules.specs.Work.{Work, Outcome, for_each, with_node}
-use Rattle.rule_laws.proofs.Turns.{and_right}
-use Rattle.step_laws.proofs.Outcomes.{On, on_more, on_then, on_each}
-use Rattle.node_laws.proofs.Lists.{all_weaker}
-use Rattle.node_laws.proofs.Tables.{pages_are}
+use Rattle.node_rules.specs.Work.{Work, with_node}
+use Rattle.step_laws.proofs.Outcomes.{On}
 use Rattle.cluster_rules.specs.Clusters.{Cluster}
 use Rattle.cluster_laws.specs.Handed.{IsHanded}
 use Rattle.cluster_laws.specs.Sound.{IsCluster, IsMember}
@@ -32,78 +26,21 @@ use Rattle.era_laws.specs.Eras.{era_in, era_at}
 use Rattle.era_laws.proofs.Lives.{stands}
 use Rattle.entry_laws.proofs.Gathered.{gathering_is_seen_law}
 use Rattle.link_laws.specs.Coming.{speaks_of}
-use Rattle.page_protocol.specs.Invariant.{Inv}
-use Rattle.page_protocol.specs.State.{Page, current}
+use Rattle.page_protocol.specs.State.{Page}
 use Rattle.page_protocol.specs.Steps.{Reached}
-use Rattle.page_protocol.proofs.Keeps.{reached_holds}
-use Rattle.page_protocol.proofs.Promises.{durable_law}
 use Rattle.page_relation.specs.Messages.{ReportIs, SaysSo}
 use Rattle.page_relation.specs.Relation.{IsPageOf}
 use Rattle.page_relation.specs.Tables.{IsRebuilt, TableIs, TableIn, TableOf}
-use Rattle.storage_laws.specs.Looks.{page_of}
-use Rattle.storage_laws.proofs.ReadPages.{stored_is_read_law}
-use Rattle.storage_laws.proofs.Redos.{redone_is_current_law}
 use Rattle.work_relation.specs.Landing.{Acts}
 use Rattle.work_relation.specs.Taken.{taken_of, TakenSays}
 use Rattle.work_relation.proofs.Started.{acting}
 use Rattle.work_relation.proofs.Taking.{taken_is_said_law}
 use Rattle.settle_relation.proofs.Deciding.{put_there}
-use Rattle.related_runs.proofs.PageLists.{partition_once}
-use Rattle.loss_relation.specs.Writes.{MayWrite, elsewhere}
+use Rattle.loss_relation.specs.Writes.{elsewhere}
 use Rattle.report_relation.specs.Completing.{HasAll}
-use Rattle.redo_halts.proofs.Resting.{settled_rest}
-use Rattle.redo_halts.proofs.Serving.{serves_alone}
-use Rattle.redo_halts.proofs.Walked.{Untouched, May, Redoable, away_untouched, away_may, here_may, walked_may}
-
-not_is : (b : Bool) → not b ≡ true → b ≡ false
-not_is true e = absurd (cc)
-not_is false e = refl
-
-module _ (blank : List ℕ) (c : Cluster) (n p : ℕ) (s : NodeState) (a : Page) (i : IsCluster c) (member : IsMember c.config c.views n s) (reached : Reached blank a) (is : IsPageOf c p a) where
-  inv : Inv blank a
-  inv = reached_holds blank a reached
-
-  -- redo writes the current page
-  pub able : (a.served ≡ true → a.owner ≡ n) → Redoable c.disk a p n (all_records s.home.config c.disk)
-  able own =
-      record {
-        read = stored_is_read_law c.config c.disk p a.disk a.log is.stored;
-        comes =
-            subst (λ (k : Sizes). redone (all_records k c.disk) p (page_of a.disk) ≡ page_of (current a)) (sym member.config)
-            (redone_is_current_law c.config c.disk p a i.disk.logs is.stored (durable_law blank a inv)).0;
-        low = inv.stores_hold.disk_is.old;
-        own = own;
-      }
-
-  -- redo of a partition
-  module _ (q : ℕ) (low : q < s.home.config.nodes) where
-    abbrev pub each : ℕ → Work → Outcome Work
-    each = redo_page (all_records s.home.config c.disk) q
-
-    others : (q == partition s.home.config p) ≡ false → AllByRecursion (λ (k : ℕ). k ≢ p) (pages_of s.home.config q)
-    others differs =
-        all_weaker (bytes.IsPageOf s.home.config q) (λ (k : ℕ). k ≢ p)
-        (λ k of same.
-        (let here : q ≡ partition s.home.config p = sym of.1 ∙ ap (partition s.home.config) same in
-        let bad : (q == partition s.home.config p) ≡ true = grind (arith, nat_tests, here) in
-        absurd (cc)))
-        (pages_of s.home.config q) (pages_are s.home.config q low)
-
-    pub redone_may : (q ≡ partition s.home.config p → a.served ≡ true → a.owner ≡ n) → (w : Work) → Untouched c.disk p w → On (May a p n) (for_each each (pages_of s.home.config q) w)
-    redone_may own w u = by (q == partition s.home.config p) refl
-      where
-        by : (b : Bool) → (q == partition s.home.config p) ≡ b → On (May a p n) (for_each each (pages_of s.home.config q) w)
-        by true e =
-            walked_may c.disk a p n each (away_untouched c.disk p (all_records s.home.config c.disk) q) (away_may c.disk p (all_records s.home.config c.disk) q a n)
-            (λ y v. here_may c.disk p (all_records s.home.config c.disk) q a n y (able (own (eqb-true q (partition s.home.config p) e))) v) (pages_of s.home.config q)
-            (partition_once s.home.config q (member.sound.limits.some_nodes)) w u
-        by false e =
-            on_more (Untouched c.disk p) (May a p n) (for_each each (pages_of s.home.config q) w) (λ y v. elsewhere v.none)
-            (on_each (Untouched c.disk p) (λ (k : ℕ). k ≢ p) each (λ k y other v. away_untouched c.disk p (all_records s.home.config c.disk) q k y other v) (pages_of s.home.config q) (others e) w u)
-
-  -- a table that is complete is redone and served
-  pub served_may : (q : ℕ) (w : Work) → May a p n w → On (May a p n) (begin_serving q w)
-  served_may q w may = settled_rest (λ calls pages. MayWrite a p n calls) q _ may
+use Rattle.redo_halts.proofs.Completed.{complete_may}
+use Rattle.redo_halts.proofs.Serving.{misses_none, serves_alone}
+use Rattle.redo_halts.proofs.Walked.{May}
 
 module _ (blank : List ℕ) (c : Cluster) (e : Event) (n p : ℕ) (s : NodeState) (from : ℕ) (m : Message) (x : Report) (a : Page) (i : IsCluster c) (h : IsHanded c e n s (Deliver from m)) (reached : Reached blank a)
     (is : IsPageOf c p a) (body_is : m.body ≡ body.Report x) where
@@ -165,8 +102,8 @@ module _ (blank : List ℕ) (c : Cluster) (e : Event) (n p : ℕ) (s : NodeState
         says : ReportIs a.era a.reached a.listed a.right a.home p from (era_at c q m.epoch) x
         says = subst (SaysSo a.era a.hist a.reached a.listed a.right a.home a.sent p from n (era_at c q m.epoch)) body_is (said.head speaks).says
 
-        marks : marked u a.owner ≡ true → a.era < a.reached a.owner
-        marks on = by (marked t a.owner) (from == a.owner) refl refl (sym ((gathering_is_seen_law t from x).marks a.owner) ∙ on)
+        marks : a.owner ≢ n → marked u a.owner ≡ true → a.era < a.reached a.owner
+        marks other on = by (marked t a.owner) (from == a.owner) refl refl (sym ((gathering_is_seen_law t from x).marks a.owner) ∙ on)
           where
             by : (y z : Bool) → marked t a.owner ≡ y → (from == a.owner) ≡ z → (y || (z && nat_lt from (length t.reported))) ≡ true → a.era < a.reached a.owner
             by true z is_marked e or = let high = table.reaches a.owner is_marked in let less = table.later in omega (arith, high, less)
@@ -178,24 +115,12 @@ module _ (blank : List ℕ) (c : Cluster) (e : Event) (n p : ℕ) (s : NodeState
             by false false is_marked e or = absurd (cc)
 
     missed : is_complete s.view x.partition (table_at (put_table s x.partition (Some u)) x.partition) ≡ true → missing u said.view x.partition ≡ false
-    missed on =
-        not_is (missing u said.view x.partition)
-        (and_right (not u.serving) (not (missing u said.view x.partition))
-        (sym (ap (λ (o : Option View). is_complete o x.partition (table_at (put_table s x.partition (Some u)) x.partition)) said.in_view
-        ∙ ap (is_complete (Some said.view) x.partition) (put_there s.tables x.partition t (Some u) there))
-        ∙ on))
+    missed on = misses_none s.view (table_at (put_table s x.partition (Some u)) x.partition) said.view u x.partition said.in_view (put_there s.tables x.partition t (Some u) there) on
 
-    complete_may : On (May a p n) (complete c.disk x.partition w)
-    unfolding complete
-    complete_may = by (is_complete s.view x.partition (table_at (put_table s x.partition (Some u)) x.partition)) refl
-      where
-        by : (b : Bool) → is_complete s.view x.partition (table_at (put_table s x.partition (Some u)) x.partition) ≡ b → On (May a p n) (complete_if b c.disk x.partition w)
-        by false e = elsewhere tt
-        by true e =
-            on_then (May a p n) (May a p n) (for_each (redo_page (all_records s.home.config c.disk) x.partition) (pages_of s.home.config x.partition) w) (begin_serving x.partition)
-            (redone_may blank c n p s a i member reached is x.partition named.0
-            (λ at. own_of (at ∙ ap (λ (k : Sizes). partition k p) member.config) (missed e)) w (record { page = refl; none = tt }))
-            (λ y may. served_may blank c n p s a i member reached is x.partition y may)
+    gathered_may : On (May a p n) (complete c.disk x.partition w)
+    gathered_may =
+        complete_may blank c n p a i reached is x.partition w member.config (subst (λ (k : Sizes). x.partition < k.nodes) member.config named.0) (record { page = refl; none = tt })
+        (λ on at. own_of at (missed on))
 
   report_may : (said : TakenSays c e n p a s from m) → On (May a p n) (on_report c.disk from x (taken_of c s))
   unfolding on_report
@@ -203,7 +128,7 @@ module _ (blank : List ℕ) (c : Cluster) (e : Event) (n p : ℕ) (s : NodeState
     where
       taken : (t : LockTable) → table_at s x.partition ≡ Some t → (b : Bool) → t.serving ≡ b → On (May a p n) (take_report b c.disk from x t (taken_of c s))
       taken t there true on = elsewhere tt
-      taken t there false off = complete_may said t there off
+      taken t there false off = gathered_may said t there off
 
       by : (o : Option LockTable) → table_at s x.partition ≡ o → On (May a p n) (on_report_in c.disk from x o (taken_of c s))
       by None there = elsewhere tt

@@ -1,11 +1,13 @@
 -- Where a table misses no report, nobody else serves.
-use Rattle.std.proofs.Common.{◌≡◌, ◌≢◌, refl, sym, ap, subst, ◌∙◌, ℕ, ◌<◌, ◌≤◌, ◌==◌, Bool, true, false, Option, Some, None, is_some, arith, eqb-true}
+use Rattle.std.proofs.Common.{◌≡◌, ◌≢◌, refl, sym, ap, subst, ◌∙◌, ℕ, ◌<◌, ◌≤◌, ◌==◌, not, Bool, true, false, Option, Some, None, is_some, arith, eqb-true}
 use Rattle.std.proofs.lemmas.Bool.Decides.{nat_tests}
 use Rattle.pcl_base.specs.Limits.{Sizes}
 use Rattle.run_rules.specs.Views.{View, since_of}
-use Rattle.node_rules.specs.InstallRule.{owned_before}
+use Rattle.node_rules.specs.InstallRule.{owned_before, is_complete}
 use Rattle.node_rules.specs.LockTable.{LockTable, marked}
 use Rattle.node_rules.specs.NodeState.{NodeState, number_of, partition, table_at, is_serving}
+use Rattle.node_rules.specs.Reports.{missing}
+use Rattle.rule_laws.proofs.Turns.{and_right}
 use Rattle.cluster_rules.specs.Clusters.{Cluster, node_at}
 use Rattle.cluster_laws.specs.Sound.{IsMember}
 use Rattle.cluster_laws.proofs.Steps.{up_is_member_law}
@@ -18,8 +20,19 @@ use Rattle.work_relation.specs.Landing.{Acts}
 use Rattle.report_relation.specs.Completing.{HasAll}
 use Rattle.report_relation.proofs.Reaching.{up_have_reached_law}
 
+not_is : (b : Bool) → not b ≡ true → b ≡ false
+not_is true e = absurd (cc)
+not_is false e = refl
+
+-- a table that is complete misses no report
+pub misses_none : (o : Option View) (k : Option LockTable) (v : View) (t : LockTable) (q : ℕ) → o ≡ Some v → k ≡ Some t → is_complete o q k ≡ true → missing t v q ≡ false
+misses_none o k v t q own there on =
+    not_is (missing t v q)
+    (and_right (not t.serving) (not (missing t v q))
+    (sym (ap (λ (x : Option View). is_complete x q k) own ∙ ap (is_complete (Some v) q) there) ∙ on))
+
 module _ (c : Cluster) (n p epoch : ℕ) (v : View) (t : LockTable) (a : Page) (acts : Acts c n) (low : partition c.config p < c.config.nodes) (is : IsPageOf c p a)
-    (all : HasAll c n (partition c.config p) epoch v t) (later : a.era < since_of v (partition c.config p)) (marks : marked t a.owner ≡ true → a.era < a.reached a.owner) where
+    (all : HasAll c n (partition c.config p) epoch v t) (later : a.era < since_of v (partition c.config p)) (marks : a.owner ≢ n → marked t a.owner ≡ true → a.era < a.reached a.owner) where
   abbrev q : ℕ
   q = partition c.config p
 
@@ -35,7 +48,7 @@ module _ (c : Cluster) (n p epoch : ℕ) (v : View) (t : LockTable) (a : Page) (
           let knows : era_at c q s.epoch ≡ since_of u q = (members_know_eras_law c a.owner s u (member_of s up) own).eras q in
           let era : era_in s.view q ≡ since_of u q = ap (λ (o : Option View). era_in o q) own in
           let high : since_of v q ≤ era_at c q s.epoch =
-          up_have_reached_law c n q epoch v t a.owner s acts low all other up (λ on. (let more = marks on in absurd (omega (arith, more, reached, era, now)))) in
+          up_have_reached_law c n q epoch v t a.owner s acts low all other up (λ on. (let more = marks other on in absurd (omega (arith, more, reached, era, now)))) in
           absurd (omega (arith, knows, era, now, high, later))
 
       served : (s : NodeState) → node_at c a.owner ≡ Some s → (u : LockTable) → table_at s q ≡ Some u → (b : Bool) → b ≡ true → TableIs a p a.owner (era_in s.view q) b u → (o : Option View) → s.view ≡ o

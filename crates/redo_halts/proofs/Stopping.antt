@@ -1,26 +1,35 @@
 -- A stop in a step that may redo pages.
 use Rattle.std.proofs.Common.{◌≡◌, ◌≢◌, refl, sym, ap, subst, ◌∙◌, ℕ, List, [], ◌∷◌, ◌++◌, Option, Some, None}
 use Rattle.std.specs.List.{AllByRecursion, fold}
+use Rattle.pcl_base.specs.declared.event.Event.{Event}
+use Rattle.pcl_base.specs.declared.message.Body.{Body}
+use Rattle.pcl_base.specs.declared.message.Body.TheVariants as body
+use Rattle.pcl_base.specs.declared.message.Message.{Message}
 use Rattle.pcl_base.specs.declared.reply.Reason.{Reason}
 use Rattle.pcl_base.specs.declared.tx.TxId.{TxId}
 use Rattle.text_rules.specs.LogRecord.{whole_len}
 use Rattle.run_rules.specs.Disk.{Disk}
 use Rattle.node_rules.specs.DiskCalls.{DiskCall, WritePage, Force, TrimLog, CutLog, forced}
-use Rattle.node_rules.specs.NodeState.{NodeState, NodeEvent, Commit, Deliver}
+use Rattle.node_rules.specs.NodeState.{NodeState, NodeEvent, Begin, Read, Write, Commit, Abort, Deliver, Evict, Flush, Install, Cut}
 use Rattle.node_rules.specs.NodeStep.{Plan, begin_work, do_event, unless_refused, plan_of, nodestep}
 use Rattle.node_rules.specs.Refusals.{refusal}
 use Rattle.node_rules.specs.Work.{Work, Goes}
 use Rattle.step_laws.proofs.Outcomes.{On, on_so}
 use Rattle.call_laws.specs.Calls.{IsWrite, log_of_node, log_calls, BeginsWith}
 use Rattle.call_laws.proofs.Events.{steps_begin_with_logs_law}
+use Rattle.cluster_rules.specs.Clusters.{Cluster}
+use Rattle.link_laws.specs.StepLaws.{IsPlanned}
 use Rattle.page_protocol.specs.State.{Page}
+use Rattle.page_relation.specs.Together.{IsRelated}
 use Rattle.storage_laws.specs.Stored.{forced_by}
-use Rattle.loss_relation.specs.Writes.{MayWrite, elsewhere, PastForce, unforced, past}
+use Rattle.loss_relation.specs.Writes.{MayWrite, elsewhere, PastForce, unforced, past, WriteVersions, IsNoReport}
 use Rattle.loss_relation.proofs.Dirty.{may_front}
 use Rattle.loss_relation.proofs.Halted.{halted_is_related_law}
+use Rattle.loss_relation.proofs.Ordinary.{steps_write_versions_law}
 use Rattle.loss_relation.proofs.Stops.{FirstCall, no_call, forces, trims, cuts_off, first_call}
-use Rattle.between_events.proofs.Losing.{scripts_fit}
-use Rattle.redo_halts.specs.Stops.{ReportsWriteVersions, ReportStopsAreRelated}
+use Rattle.between_events.proofs.Losing.{halted_pages_are_left_law, scripts_fit}
+use Rattle.redo_halts.specs.Stops.{ReportsWriteVersions, InstallsWriteVersions, AllWriteVersions, AllHaltsAreRelated, AllStopsAreRelated, AllStopsLeavePages}
+use Rattle.redo_halts.proofs.Installed.{install_may}
 use Rattle.redo_halts.proofs.Reported.{event_may}
 use Rattle.redo_halts.proofs.Walked.{May}
 
@@ -78,7 +87,42 @@ reports_write_versions_law blank c e n s from m x plan r planned body_is p front
     beginnings_may s (Deliver from m) c.disk plan p n (r.pages.page p) b front back (λ t same. absurd (cc)) planned.goes parts at
     (event_may blank c e n p s from m x (r.pages.page p) r.cluster planned.handed (r.pages.reached p low) (r.pages.related p low) body_is)
 
-pub report_stops_are_related_law : ReportStopsAreRelated
-report_stops_are_related_law blank from m x body_is c e n s p l is h goes stops =
-    (halted_is_related_law blank c e n s (Deliver from m) p l is.related (record { handed = h; goes = goes }) stops (scripts_fit blank c is)
-    (reports_write_versions_law blank c e n s from m x p is.related (record { handed = h; goes = goes }) body_is)).pages
+pub installs_write_versions_law : InstallsWriteVersions
+installs_write_versions_law blank c e n s v plan r planned p front back b low parts at =
+    beginnings_may s (Install v) c.disk plan p n (r.pages.page p) b front back (λ t same. absurd (cc)) planned.goes parts at
+    (install_may blank c e n p s v (r.pages.page p) r.cluster planned.handed (r.pages.reached p low) (r.pages.related p low))
+
+module _ (blank : List ℕ) (c : Cluster) (e : Event) (n : ℕ) (s : NodeState) (plan : Plan) (r : IsRelated blank c) where
+  delivers : (from : ℕ) (m : Message) (b : Body) → m.body ≡ b → IsPlanned c e n s (Deliver from m) plan → WriteVersions r.pages.page c.config.pages n plan.calls
+  delivers from m (body.Report x) same planned = reports_write_versions_law blank c e n s from m x plan r planned same
+  delivers from m (body.Request x) same planned = steps_write_versions_law blank c e n s (Deliver from m) plan r planned (subst IsNoReport (sym same) tt)
+  delivers from m (body.Grant x) same planned = steps_write_versions_law blank c e n s (Deliver from m) plan r planned (subst IsNoReport (sym same) tt)
+  delivers from m (body.Release x) same planned = steps_write_versions_law blank c e n s (Deliver from m) plan r planned (subst IsNoReport (sym same) tt)
+  delivers from m (body.Revoke x) same planned = steps_write_versions_law blank c e n s (Deliver from m) plan r planned (subst IsNoReport (sym same) tt)
+  delivers from m (body.Return x) same planned = steps_write_versions_law blank c e n s (Deliver from m) plan r planned (subst IsNoReport (sym same) tt)
+
+  any : (ev : NodeEvent) → IsPlanned c e n s ev plan → WriteVersions r.pages.page c.config.pages n plan.calls
+  any (Install v) planned = installs_write_versions_law blank c e n s v plan r planned
+  any (Deliver from m) planned = delivers from m m.body refl planned
+  any Begin planned = steps_write_versions_law blank c e n s Begin plan r planned tt
+  any (Read t p) planned = steps_write_versions_law blank c e n s (Read t p) plan r planned tt
+  any (Write t p place bytes) planned = steps_write_versions_law blank c e n s (Write t p place bytes) plan r planned tt
+  any (Commit t) planned = steps_write_versions_law blank c e n s (Commit t) plan r planned tt
+  any (Abort t) planned = steps_write_versions_law blank c e n s (Abort t) plan r planned tt
+  any (Evict p) planned = steps_write_versions_law blank c e n s (Evict p) plan r planned tt
+  any (Flush p) planned = steps_write_versions_law blank c e n s (Flush p) plan r planned tt
+  any Cut planned = steps_write_versions_law blank c e n s Cut plan r planned tt
+
+pub all_write_versions_law : AllWriteVersions
+all_write_versions_law blank c e n s ev plan r planned = any blank c e n s plan r ev planned
+
+pub all_halts_are_related_law : AllHaltsAreRelated
+all_halts_are_related_law blank c e n s ev plan l r planned left fit =
+    halted_is_related_law blank c e n s ev plan l r planned left fit (all_write_versions_law blank c e n s ev plan r planned)
+
+pub all_stops_are_related_law : AllStopsAreRelated
+all_stops_are_related_law blank ev c e n s p l is h goes stops =
+    (all_halts_are_related_law blank c e n s ev p l is.related (record { handed = h; goes = goes }) stops (scripts_fit blank c is)).pages
+
+pub all_stops_leave_pages_law : AllStopsLeavePages
+all_stops_leave_pages_law blank c e n s ev p l is h goes stops = halted_pages_are_left_law blank c e n l is (all_stops_are_related_law blank ev c e n s p l is h goes stops)

@@ -17,6 +17,7 @@ use Rattle.page_protocol.specs.State.{Page, current}
 use Rattle.storage_laws.specs.Looks.{page_of}
 use Rattle.related_runs.proofs.PageLists.{has_page, ArePages}
 use Rattle.loss_relation.specs.Writes.{NoWrites, MayWrite, elsewhere, versions}
+use Rattle.loss_relation.proofs.Counting.{both_all}
 use Rattle.loss_relation.proofs.Dirty.{none_more, rise_more, rise_first}
 
 -- page p was not written, and is read as it is on the disk
@@ -27,7 +28,7 @@ pub record Untouched (d : Disk) (p : ℕ) (w : Work) : Type 0 where
 abbrev pub May : Page → ℕ → ℕ → Work → Type 0
 May a p n w = MayWrite a p n w.calls
 
-may_more : (a : Page) (p n q : ℕ) (bytes : List ℕ) (calls : List DiskCall) → q ≢ p → MayWrite a p n calls → MayWrite a p n (calls ++ WritePage q bytes ∷ [])
+pub may_more : (a : Page) (p n q : ℕ) (bytes : List ℕ) (calls : List DiskCall) → q ≢ p → MayWrite a p n calls → MayWrite a p n (calls ++ WritePage q bytes ∷ [])
 may_more a p n q bytes calls other (elsewhere none) = elsewhere (none_more p q bytes calls other none)
 may_more a p n q bytes calls other (versions own rise) = versions own (rise_more a.hist a.now p a.disk.version q bytes calls other rise)
 
@@ -90,20 +91,21 @@ module _ (d : Disk) (p : ℕ) (rs : List Record) (q : ℕ) where
           (rise_first a.hist a.now p a.disk.version a.now (stored_bytes p (page_of (current a))) w.calls (record { least = able.low; most = omega arith; made = refl }) u.none)
       by false k = elsewhere u.none
 
--- a walk over pages, each of them once
-module _ (d : Disk) (a : Page) (p n : ℕ) (f : ℕ → Work → Outcome Work) (away : (x : ℕ) (w : Work) → x ≢ p → Untouched d p w → On (Untouched d p) (f x w))
-    (after : (x : ℕ) (w : Work) → x ≢ p → May a p n w → On (May a p n) (f x w)) (on_page : (w : Work) → Untouched d p w → On (May a p n) (f p w)) where
-  step_may : (x : ℕ) (xs : List ℕ) (w : Work) → has_page xs x ≡ false → Untouched d p w → ((y : Work) → Untouched d p y → On (May a p n) (for_each f xs y)) → On (May a p n) (and_then (f x w) (for_each f xs))
-  step_may x xs w once u rest = by (x == p) refl
+-- a walk over numbers, each of them once, of which one makes of some facts others
+module _ (L : ℕ → Type 0) (A B : Work → Type 0) (p : ℕ) (f : ℕ → Work → Outcome Work) (ends : (w : Work) → A w → B w) (away : (x : ℕ) (w : Work) → L x → x ≢ p → A w → On A (f x w))
+    (after : (x : ℕ) (w : Work) → L x → x ≢ p → B w → On B (f x w)) (here : (w : Work) → A w → On B (f p w)) where
+  step_on : (x : ℕ) (xs : List ℕ) (w : Work) → L x → AllByRecursion L xs → has_page xs x ≡ false → A w → ((y : Work) → A y → On B (for_each f xs y)) → On B (and_then (f x w) (for_each f xs))
+  step_on x xs w in_list all once u rest = by (x == p) refl
     where
-      by : (b : Bool) → (x == p) ≡ b → On (May a p n) (and_then (f x w) (for_each f xs))
+      by : (b : Bool) → (x == p) ≡ b → On B (and_then (f x w) (for_each f xs))
       by true e =
           let same : x ≡ p = eqb-true x p e in
-          on_then (May a p n) (May a p n) (f x w) (for_each f xs) (subst (λ (k : ℕ). On (May a p n) (f k w)) (sym same) (on_page w u))
-          (λ y may. on_each (May a p n) (λ (k : ℕ). k ≢ p) f (λ k z other m. after k z other m) xs (none_of p xs (subst (λ (k : ℕ). has_page xs k ≡ false) same once)) y may)
-      by false e = on_then (Untouched d p) (May a p n) (f x w) (for_each f xs) (away x w (λ same. grind (arith, nat_tests, e, same)) u) rest
+          on_then B B (f x w) (for_each f xs) (subst (λ (k : ℕ). On B (f k w)) (sym same) (here w u))
+          (λ y may. on_each B (λ (k : ℕ). L k × (k ≢ p)) f (λ k z other m. after k z other.0 other.1 m) xs
+          (both_all L (λ (k : ℕ). k ≢ p) xs all (none_of p xs (subst (λ (k : ℕ). has_page xs k ≡ false) same once))) y may)
+      by false e = on_then A B (f x w) (for_each f xs) (away x w in_list (λ same. grind (arith, nat_tests, e, same)) u) rest
 
-  pub walked_may : (xs : List ℕ) → ArePages xs → (w : Work) → Untouched d p w → On (May a p n) (for_each f xs w)
+  pub walked : (xs : List ℕ) → AllByRecursion L xs → ArePages xs → (w : Work) → A w → On B (for_each f xs w)
   unfolding for_each
-  walked_may [] once w u = elsewhere u.none
-  walked_may (x ∷ xs) once w u = step_may x xs w once.0 u (walked_may xs once.1)
+  walked [] all once w u = ends w u
+  walked (x ∷ xs) all once w u = step_on x xs w all.0 all.1 once.0 u (walked xs all.1 once.1)
