@@ -79,7 +79,7 @@ delivered c (event.Deliver a b) n s from m h = by (is_some s.view) (head_at c.li
         let message : k ≡ m = cc in
         sym (ap (λ (x : ℕ). head_at c.links x n) source) ∙ sym (ap (head_at c.links a) acts) ∙ at ∙ ap Some message
 
-module _ (blank : List ℕ) (k : ActsByEvent blank) (c : Cluster) (is : IsOfRun blank c) where
+module _ (blank : List ℕ) (c : Cluster) (k : ActsByEvent blank c) (is : IsOfRun blank c) where
   -- a page whose state stays
   stays : (e : Event) (p : ℕ) → p < c.config.pages → IsPageOf (step c e) p (is.related.pages.page p) → Follows p IsEntered (is.related.pages.page p) (step c e)
   stays e p low related = record { page = is.related.pages.page p; run = no_step; related = related; known = is.between.entered p low }
@@ -94,15 +94,12 @@ module _ (blank : List ℕ) (k : ActsByEvent blank) (c : Cluster) (is : IsOfRun 
     -- a message that is taken
     taken : (from : ℕ) (m : Message) → IsMade c e n s (Deliver from m) w → judge_in s.view (number_of s) from m.epoch (partition_of s.home.config m.body) ≡ verdict.Taken
         → (b : Body) → m.body ≡ b → Leads blank c e is
-    taken from m i judged (body.Request r) same = k.requests from m r same c e n s w is i judged
-    taken from m i judged (body.Grant g) same = k.grants from m g same c e n s w is i judged
-    taken from m i judged (body.Release r) same = k.releases from m r same c e n s w is i judged
-    taken from m i judged (body.Revoke page) same = λ p low.
-        revoke_is_kept_law c e n p page from s m (is.related.pages.page p) is.related.cluster is.related.order
-        (head_all (IsParty c from n) (link_at c.links from n) m (is.related.parties from n) (delivered c e n s from m i.handed))
-        i.handed same judged (is.between.entered p low) (is.related.pages.related p low)
-    taken from m i judged (body.Return r) same = k.returns from m r same c e n s w is i judged
-    taken from m i judged (body.Report r) same = k.reports from m r same c e n s w is i judged
+    taken from m i judged (body.Request r) same = k.requests from m r same e n s w is i judged
+    taken from m i judged (body.Grant g) same = k.grants from m g same e n s w is i judged
+    taken from m i judged (body.Release r) same = k.releases from m r same e n s w is i judged
+    taken from m i judged (body.Revoke page) same = k.revocations from m page same e n s w is i judged
+    taken from m i judged (body.Return r) same = k.returns from m r same e n s w is i judged
+    taken from m i judged (body.Report r) same = k.reports from m r same e n s w is i judged
 
     arrived : (from : ℕ) (m : Message) → IsMade c e n s (Deliver from m) w → (x : Verdict) → judge_in s.view (number_of s) from m.epoch (partition_of s.home.config m.body) ≡ x → Leads blank c e is
     arrived from m i verdict.Taken judged = taken from m i judged m.body refl
@@ -117,10 +114,10 @@ module _ (blank : List ℕ) (k : ActsByEvent blank) (c : Cluster) (is : IsOfRun 
 
     event_leads : (ev : NodeEvent) → IsMade c e n s ev w → Leads blank c e is
     event_leads Begin i = λ p low. stays e p low (begin_is_kept_law c e n p s (is.related.pages.page p) is.related.cluster i.handed (is.related.pages.related p low))
-    event_leads (Read t p) i = k.reads t p c e n s w is i
-    event_leads (Write t p place bytes) i = k.writes t p place bytes c e n s w is i
-    event_leads (Commit t) i = k.commits t c e n s w is i
-    event_leads (Abort t) i = k.aborts t c e n s w is i
+    event_leads (Read t p) i = k.reads t p e n s w is i
+    event_leads (Write t p place bytes) i = k.writes t p place bytes e n s w is i
+    event_leads (Commit t) i = k.commits t e n s w is i
+    event_leads (Abort t) i = k.aborts t e n s w is i
     event_leads (Deliver from m) i = arrived from m i (judge_in s.view (number_of s) from m.epoch (partition_of s.home.config m.body)) refl
     event_leads (Evict q) i = λ p low.
         evict_is_kept_law c e n p q s blank (is.related.pages.page p) is.related.cluster i.handed (unstopped (Evict q) i) low (is.related.pages.reached p low)
@@ -128,7 +125,7 @@ module _ (blank : List ℕ) (k : ActsByEvent blank) (c : Cluster) (is : IsOfRun 
     event_leads (Flush q) i = λ p low.
         flush_is_kept_law c e n p q s blank (is.related.pages.page p) is.related.cluster i.handed (unstopped (Flush q) i) low (is.related.pages.reached p low)
         (is.between.entered p low) (is.related.pages.related p low)
-    event_leads (Install v) i = k.installs v c e n s w is i
+    event_leads (Install v) i = k.installs v e n s w is i
     event_leads Cut i = λ p low.
         cut_is_kept_law c e n p s w (is.related.pages.page p) is.related.cluster i.handed (unstopped Cut i) i.goes (is.between.entered p low) (is.related.pages.related p low)
 
@@ -158,7 +155,7 @@ module _ (blank : List ℕ) (k : ActsByEvent blank) (c : Cluster) (is : IsOfRun 
     delivery_stop from m h goes stops (body.Release r) same = quiet_stop (Deliver from m) h goes stops (subst IsNoReport (sym same) tt)
     delivery_stop from m h goes stops (body.Revoke page) same = quiet_stop (Deliver from m) h goes stops (subst IsNoReport (sym same) tt)
     delivery_stop from m h goes stops (body.Return r) same = quiet_stop (Deliver from m) h goes stops (subst IsNoReport (sym same) tt)
-    delivery_stop from m h goes stops (body.Report r) same = halted_pages_are_left_law blank c e n l is (k.stopped_reports from m r same c e n s p l is h goes stops)
+    delivery_stop from m h goes stops (body.Report r) same = halted_pages_are_left_law blank c e n l is (k.stopped_reports from m r same e n s p l is h goes stops)
 
     any_stop : (ev : NodeEvent) → IsHanded c e n s ev → nodestep s ev c.disk ≡ Goes p → left_of n c.disk p.calls (stop_at c n) ≡ Some l → LeavesPages blank (halted e n l c)
     any_stop Begin h goes stops = quiet_stop Begin h goes stops tt
@@ -169,22 +166,22 @@ module _ (blank : List ℕ) (k : ActsByEvent blank) (c : Cluster) (is : IsOfRun 
     any_stop (Deliver from m) h goes stops = delivery_stop from m h goes stops m.body refl
     any_stop (Evict q) h goes stops = quiet_stop (Evict q) h goes stops tt
     any_stop (Flush q) h goes stops = quiet_stop (Flush q) h goes stops tt
-    any_stop (Install v) h goes stops = halted_pages_are_left_law blank c e n l is (k.stopped_installs v c e n s p l is h goes stops)
+    any_stop (Install v) h goes stops = halted_pages_are_left_law blank c e n l is (k.stopped_installs v e n s p l is h goes stops)
     any_stop Cut h goes stops = quiet_stop Cut h goes stops tt
 
 pub events_are_all_law : EventsAreAll
-events_are_all_law blank k =
+events_are_all_law blank c k =
     record {
-      refused = λ c e r is. (quiet_kinds_are_left_law blank c is).refused e r;
-      crashed = λ c n is. (lost_kinds_are_left_law blank c is).crashed n;
-      armed = λ c n call kept is. (quiet_kinds_are_left_law blank c is).armed n call kept;
-      viewed = λ c live owners v is made drops. (quiet_kinds_are_left_law blank c is).viewed live owners v made drops;
-      reopened = λ c v is made down. (quiet_kinds_are_left_law blank c is).reopened v made down;
-      differs = λ c e n s ev is h. (lost_kinds_are_left_law blank c is).differs e n s ev h;
-      stopped = λ c e n s ev p l is h goes stops. any_stop blank k c is e n s p l ev h goes stops;
-      refused_there = λ c e n s ev r is h refused. (quiet_kinds_are_left_law blank c is).refused_there e n s ev r h refused;
-      acted = λ c e n s ev w is h free goes whole. acted_left blank k c is e n s ev w (record { handed = h; free = free; goes = goes; whole = whole });
+      refused = λ e r is. (quiet_kinds_are_left_law blank c is).refused e r;
+      crashed = λ n is. (lost_kinds_are_left_law blank c is).crashed n;
+      armed = λ n call kept is. (quiet_kinds_are_left_law blank c is).armed n call kept;
+      viewed = λ live owners v is made drops. (quiet_kinds_are_left_law blank c is).viewed live owners v made drops;
+      reopened = λ v is made down. (quiet_kinds_are_left_law blank c is).reopened v made down;
+      differs = λ e n s ev is h. (lost_kinds_are_left_law blank c is).differs e n s ev h;
+      stopped = λ e n s ev p l is h goes stops. any_stop blank c k is e n s p l ev h goes stops;
+      refused_there = λ e n s ev r is h refused. (quiet_kinds_are_left_law blank c is).refused_there e n s ev r h refused;
+      acted = λ e n s ev w is h free goes whole. acted_left blank c k is e n s ev w (record { handed = h; free = free; goes = goes; whole = whole });
     }
 
 pub events_keep_pages_law : EventsKeepPages
-events_keep_pages_law blank k = kinds_are_all_law blank (events_are_all_law blank k)
+events_keep_pages_law blank c e k = kinds_are_all_law blank c e (events_are_all_law blank c k)

@@ -23,7 +23,7 @@ use Rattle.page_relation.specs.Together.{HasPages}
 use Rattle.work_relation.specs.Events.{IsEntered}
 use Rattle.work_relation.specs.StepEnds.{start_of, Follows}
 use Rattle.related_runs.specs.Kinds.{StepsByKind}
-use Rattle.related_runs.specs.RunLaws.{IsOfRun, StepsKeepPages}
+use Rattle.related_runs.specs.RunLaws.{IsOfRun, LeavesPages}
 
 -- a step that a node makes whole, on an event that isn't refused
 pub record IsMade (c : Cluster) (e : Event) (n : ℕ) (s : NodeState) (ev : NodeEvent) (w : Work) : Type 0 where
@@ -37,40 +37,41 @@ abbrev pub Leads : (blank : List ℕ) (c : Cluster) → Event → IsOfRun blank 
 Leads blank c e is = (p : ℕ) → p < c.config.pages → Follows p IsEntered (is.related.pages.page p) (step c e)
 
 -- so does every such step on an event
-abbrev pub ActsOn : List ℕ → NodeEvent → Type 0
-ActsOn blank ev = (c : Cluster) (e : Event) (n : ℕ) (s : NodeState) (w : Work) (is : IsOfRun blank c) → IsMade c e n s ev w → Leads blank c e is
+abbrev pub ActsOn : List ℕ → Cluster → NodeEvent → Type 0
+ActsOn blank c ev = (e : Event) (n : ℕ) (s : NodeState) (w : Work) (is : IsOfRun blank c) → IsMade c e n s ev w → Leads blank c e is
 
 -- and on a message that is taken
-abbrev pub TakesIn : List ℕ → ℕ → Message → Type 0
-TakesIn blank from m =
-    (c : Cluster) (e : Event) (n : ℕ) (s : NodeState) (w : Work) (is : IsOfRun blank c) → IsMade c e n s (Deliver from m) w
+abbrev pub TakesIn : List ℕ → Cluster → ℕ → Message → Type 0
+TakesIn blank c from m =
+    (e : Event) (n : ℕ) (s : NodeState) (w : Work) (is : IsOfRun blank c) → IsMade c e n s (Deliver from m) w
     → judge_in s.view (number_of s) from m.epoch (partition_of s.home.config m.body) ≡ verdict.Taken → Leads blank c e is
 
 -- A stop in a step on an event leaves the pages related.
-abbrev pub StopsIn : List ℕ → NodeEvent → Type 0
-StopsIn blank ev =
-    (c : Cluster) (e : Event) (n : ℕ) (s : NodeState) (p : Plan) (l : Left) → IsOfRun blank c → IsHanded c e n s ev → nodestep s ev c.disk ≡ Goes p
+abbrev pub StopsIn : List ℕ → Cluster → NodeEvent → Type 0
+StopsIn blank c ev =
+    (e : Event) (n : ℕ) (s : NodeState) (p : Plan) (l : Left) → IsOfRun blank c → IsHanded c e n s ev → nodestep s ev c.disk ≡ Goes p
     → left_of n c.disk p.calls (stop_at c n) ≡ Some l → HasPages blank (halted e n l c)
 
--- What is left: accesses, ends, installs, and messages that are taken, but for revocations; and stops in installs and reports.
-pub record ActsByEvent (blank : List ℕ) : Type 0 where
-  pub reads : (t : TxId) (p : ℕ) → ActsOn blank (Read t p)
-  pub writes : (t : TxId) (p place : ℕ) (bytes : List ℕ) → ActsOn blank (Write t p place bytes)
-  pub commits : (t : TxId) → ActsOn blank (Commit t)
-  pub aborts : (t : TxId) → ActsOn blank (Abort t)
-  pub installs : (v : View) → ActsOn blank (Install v)
-  pub requests : (from : ℕ) (m : Message) (r : Request) → m.body ≡ body.Request r → TakesIn blank from m
-  pub grants : (from : ℕ) (m : Message) (g : Grant) → m.body ≡ body.Grant g → TakesIn blank from m
-  pub releases : (from : ℕ) (m : Message) (r : Release) → m.body ≡ body.Release r → TakesIn blank from m
-  pub returns : (from : ℕ) (m : Message) (r : ReturnRight) → m.body ≡ body.Return r → TakesIn blank from m
-  pub reports : (from : ℕ) (m : Message) (r : Report) → m.body ≡ body.Report r → TakesIn blank from m
-  pub stopped_installs : (v : View) → StopsIn blank (Install v)
-  pub stopped_reports : (from : ℕ) (m : Message) (r : Report) → m.body ≡ body.Report r → StopsIn blank (Deliver from m)
+-- What is left to show of a cluster: accesses, ends, installs, and messages that are taken; and stops in installs and reports.
+pub record ActsByEvent (blank : List ℕ) (c : Cluster) : Type 0 where
+  pub reads : (t : TxId) (p : ℕ) → ActsOn blank c (Read t p)
+  pub writes : (t : TxId) (p place : ℕ) (bytes : List ℕ) → ActsOn blank c (Write t p place bytes)
+  pub commits : (t : TxId) → ActsOn blank c (Commit t)
+  pub aborts : (t : TxId) → ActsOn blank c (Abort t)
+  pub installs : (v : View) → ActsOn blank c (Install v)
+  pub requests : (from : ℕ) (m : Message) (r : Request) → m.body ≡ body.Request r → TakesIn blank c from m
+  pub grants : (from : ℕ) (m : Message) (g : Grant) → m.body ≡ body.Grant g → TakesIn blank c from m
+  pub releases : (from : ℕ) (m : Message) (r : Release) → m.body ≡ body.Release r → TakesIn blank c from m
+  pub revocations : (from : ℕ) (m : Message) (page : ℕ) → m.body ≡ body.Revoke page → TakesIn blank c from m
+  pub returns : (from : ℕ) (m : Message) (r : ReturnRight) → m.body ≡ body.Return r → TakesIn blank c from m
+  pub reports : (from : ℕ) (m : Message) (r : Report) → m.body ≡ body.Report r → TakesIn blank c from m
+  pub stopped_installs : (v : View) → StopsIn blank c (Install v)
+  pub stopped_reports : (from : ℕ) (m : Message) (r : Report) → m.body ≡ body.Report r → StopsIn blank c (Deliver from m)
 
 -- Then all kinds of steps are shown.
 abbrev pub EventsAreAll : Type 0
-EventsAreAll = (blank : List ℕ) → ActsByEvent blank → StepsByKind blank
+EventsAreAll = (blank : List ℕ) (c : Cluster) → ActsByEvent blank c → StepsByKind blank c
 
--- So each step keeps the pages of a cluster of a run.
+-- So each step keeps the pages, where the cluster is one of a run.
 abbrev pub EventsKeepPages : Type 0
-EventsKeepPages = (blank : List ℕ) → ActsByEvent blank → StepsKeepPages blank
+EventsKeepPages = (blank : List ℕ) (c : Cluster) (e : Event) → ActsByEvent blank c → IsOfRun blank c → LeavesPages blank (step c e)

@@ -121,8 +121,8 @@ all_halts_are_related_law blank c e n s ev plan l r planned left fit =
     halted_is_related_law blank c e n s ev plan l r planned left fit (all_write_versions_law blank c e n s ev plan r planned)
 
 pub all_stops_are_related_law : AllStopsAreRelated
-all_stops_are_related_law blank ev c e n s p l is h goes stops =
+all_stops_are_related_law blank c ev e n s p l is h goes stops =
     (all_halts_are_related_law blank c e n s ev p l is.related (record { handed = h; goes = goes }) stops (scripts_fit blank c is)).pages
 
 pub all_stops_leave_pages_law : AllStopsLeavePages
-all_stops_leave_pages_law blank c e n s ev p l is h goes stops = halted_pages_are_left_law blank c e n l is (all_stops_are_related_law blank ev c e n s p l is h goes stops)
+all_stops_leave_pages_law blank c e n s ev p l is h goes stops = halted_pages_are_left_law blank c e n l is (all_stops_are_related_law blank c ev e n s p l is h goes stops)

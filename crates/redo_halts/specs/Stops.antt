@@ -44,7 +44,7 @@ AllHaltsAreRelated =
 
 -- So it leaves the pages of a cluster of a run related.
 abbrev pub AllStopsAreRelated : Type 0
-AllStopsAreRelated = (blank : List ℕ) (ev : NodeEvent) → StopsIn blank ev
+AllStopsAreRelated = (blank : List ℕ) (c : Cluster) (ev : NodeEvent) → StopsIn blank c ev
 
 -- And as they are between two events.
 abbrev pub AllStopsLeavePages : Type 0

@@ -24,7 +24,7 @@ use Rattle.cluster_laws.proofs.Cases.{handed_is_stepped_law}
 use Rattle.related_runs.specs.Kinds.{StepsByKind, KindsAreAll}
 use Rattle.related_runs.specs.RunLaws.{IsOfRun, LeavesPages}
 
-module _ (blank : List ℕ) (k : StepsByKind blank) (c : Cluster) (is : IsOfRun blank c) where
+module _ (blank : List ℕ) (c : Cluster) (k : StepsByKind blank c) (is : IsOfRun blank c) where
   abbrev Kept : Cluster → Type 0
   Kept d = LeavesPages blank d
 
@@ -36,29 +36,29 @@ module _ (blank : List ℕ) (k : StepsByKind blank) (c : Cluster) (is : IsOfRun 
       goes : (p : Plan) → nodestep s ev c.disk ≡ Goes p → (left_of n c.disk p.calls (stop_at c n) ≡ None → Kept (made e n p c)) → (o : Option Left) → left_of n c.disk p.calls (stop_at c n) ≡ o
           → Kept (made_or_halted e n p o c)
       goes p g whole None l = whole l
-      goes p g whole (Some x) l = k.stopped c e n s ev p x is h g l
+      goes p g whole (Some x) l = k.stopped e n s ev p x is h g l
 
       did : refusal s ev ≡ None → (o : Outcome Work) → rules.do_event c.disk ev (begin_work s c.disk) ≡ o → Kept (after_plan e n c (and_so o plan_of))
       did none (Goes w) g =
-          goes (plan_of w) (ap (λ r. and_so (unless_refused r c.disk ev (begin_work s c.disk)) plan_of) none ∙ ap (λ o. and_so o plan_of) g) (λ l. k.acted c e n s ev w is h none g l)
+          goes (plan_of w) (ap (λ r. and_so (unless_refused r c.disk ev (begin_work s c.disk)) plan_of) none ∙ ap (λ o. and_so o plan_of) g) (λ l. k.acted e n s ev w is h none g l)
           (left_of n c.disk w.calls (stop_at c n)) refl
-      did none (Differs p expected found) g = k.differs c e n s ev is h
+      did none (Differs p expected found) g = k.differs e n s ev is h
 
       by : (r : Option Reason) → refusal s ev ≡ r → Kept (after_plan e n c (and_so (unless_refused r c.disk ev (begin_work s c.disk)) plan_of))
       by (Some r) f =
           goes (plan_of (reply (reply.Refused r) (begin_work s c.disk))) (ap (λ r. and_so (unless_refused r c.disk ev (begin_work s c.disk)) plan_of) f)
-          (λ l. k.refused_there c e n s ev r is h f) (left_of n c.disk (reply (reply.Refused r) (begin_work s c.disk)).calls (stop_at c n)) refl
+          (λ l. k.refused_there e n s ev r is h f) (left_of n c.disk (reply (reply.Refused r) (begin_work s c.disk)).calls (stop_at c n)) refl
       by None f = did f (rules.do_event c.disk ev (begin_work s c.disk)) refl
 
   -- where nothing is handed to a node, it is no step of a node
   head_none : (e : Event) (from to : ℕ) (s : NodeState) (b : Bool) (o : Option Message) → head_at c.links from to ≡ o → pick b (option_map (node.Deliver from) o) None ≡ None
       → Kept (deliver_in b e from to s c)
-  head_none e from to s false o h g = k.refused c e reason.NotInView is
-  head_none e from to s true None h g = subst (λ (o : Option Message). Kept (deliver_head e from to s o c)) (sym h) (k.refused c e reason.EmptyLink is)
+  head_none e from to s false o h g = k.refused e reason.NotInView is
+  head_none e from to s true None h g = subst (λ (o : Option Message). Kept (deliver_head e from to s o c)) (sym h) (k.refused e reason.EmptyLink is)
   head_none e from to s true (Some m) h g = absurd (cc)
 
   view_none : (e : Event) (n : ℕ) (s : NodeState) (o : Option View) → option_map node.Install o ≡ None → Kept (install_next e n s o c)
-  view_none e n s None g = k.refused c e reason.NoView is
+  view_none e n s None g = k.refused e reason.NoView is
   view_none e n s (Some v) g = absurd (cc)
 
   do_none : (e : Event) (n : ℕ) (s : NodeState) → head_of (named e) ≡ Some n → handed_to c s e ≡ None → Kept (do_event e s c)
@@ -70,11 +70,11 @@ module _ (blank : List ℕ) (k : StepsByKind blank) (c : Cluster) (is : IsOfRun 
   do_none (event.Deliver from to) n s a g = head_none (event.Deliver from to) from to s (is_some s.view) (head_at c.links from to) refl g
   do_none (event.Evict m p) n s a g = absurd (cc)
   do_none (event.Flush m p) n s a g = absurd (cc)
-  do_none (event.Crash m) n s a g = k.crashed c m is
+  do_none (event.Crash m) n s a g = k.crashed m is
   do_none (event.View live owners) n s a g = absurd (cc)
   do_none (event.Install m) n s a g = view_none (event.Install m) m s (view_of_epoch c.views (s.epoch + 1)) g
   do_none event.Reopen n s a g = absurd (cc)
-  do_none (event.Arm m call stops) n s a g = k.armed c m call stops is
+  do_none (event.Arm m call stops) n s a g = k.armed m call stops is
   do_none (event.Cut m) n s a g = absurd (cc)
 
   -- an event of a node
@@ -91,30 +91,30 @@ module _ (blank : List ℕ) (k : StepsByKind blank) (c : Cluster) (is : IsOfRun 
           subst Kept (sym (handed_is_stepped_law c e n s ev there)) (handed e n s ev there)
 
       up : list_any (nat_le c.config.nodes) (named e) ≡ false → step c e ≡ if_up e (node_at c n) c → (o : Option NodeState) → node_at c n ≡ o → Kept (step c e)
-      up low does None at = subst Kept (sym (does ∙ ap (λ o. if_up e o c) at)) (k.refused c e reason.Down is)
+      up low does None at = subst Kept (sym (does ∙ ap (λ o. if_up e o c) at)) (k.refused e reason.Down is)
       up low does (Some s) at = given s low at (does ∙ ap (λ o. if_up e o c) at) (handed_to c s e) refl
 
       by : (b : Bool) → list_any (nat_le c.config.nodes) (n ∷ ns) ≡ b → Kept (step c e)
-      by true f = subst Kept (sym (same ∙ ap (λ b. if_known (not b) e n c) f)) (k.refused c e reason.NoNode is)
+      by true f = subst Kept (sym (same ∙ ap (λ b. if_known (not b) e n c) f)) (k.refused e reason.NoNode is)
       by false f =
           up (ap (list_any (nat_le c.config.nodes)) names ∙ f) (same ∙ ap (λ b. if_known (not b) e n c) f) (node_at c n) refl
 
   -- a view
   view_event : (live : List Bool) (owners : List ℕ) (r : Result View ℕ) → next c.config (last_view c) live owners ≡ r → Kept (view_or_refuse (event.View live owners) r c)
-  view_event live owners (Err rule) made = k.refused c (event.View live owners) (reason.BadView rule) is
+  view_event live owners (Err rule) made = k.refused (event.View live owners) (reason.BadView rule) is
   view_event live owners (Ok v) made = by (drops_up c v) refl
     where
       by : (b : Bool) → drops_up c v ≡ b → Kept (make_view b (event.View live owners) v c)
-      by true f = k.refused c (event.View live owners) reason.StillUp is
-      by false f = k.viewed c live owners v is made f
+      by true f = k.refused (event.View live owners) reason.StillUp is
+      by false f = k.viewed live owners v is made f
 
   reopen_event : (r : Result View ℕ) → reopen c.config (last_view c) ≡ r → Kept (reopen_or_refuse event.Reopen r c)
-  reopen_event (Err rule) made = k.refused c event.Reopen (reason.BadView rule) is
+  reopen_event (Err rule) made = k.refused event.Reopen (reason.BadView rule) is
   reopen_event (Ok v) made = by (list_any (is_up c) (all_nodes c)) refl
     where
       by : (b : Bool) → list_any (is_up c) (all_nodes c) ≡ b → Kept (make_reopened b event.Reopen v c)
-      by true f = k.refused c event.Reopen reason.StillUp is
-      by false f = k.reopened c v is made f
+      by true f = k.refused event.Reopen reason.StillUp is
+      by false f = k.reopened v is made f
 
   pub all_kinds : (e : Event) → LeavesPages blank (step c e)
   unfolding step
@@ -134,4 +134,4 @@ module _ (blank : List ℕ) (k : StepsByKind blank) (c : Cluster) (is : IsOfRun 
   all_kinds event.Reopen = reopen_event (reopen c.config (last_view c)) refl
 
 pub kinds_are_all_law : KindsAreAll
-kinds_are_all_law blank k c e is = all_kinds blank k c is e
+kinds_are_all_law blank c e k is = all_kinds blank c k is e

@@ -27,10 +27,9 @@ use Rattle.related_runs.proofs.Spoken.{opening_has_living_law, steps_keep_partie
 use Rattle.related_runs.proofs.Safe.{related_is_serial_law, related_is_durable_law}
 
 pub steps_go_on_law : StepsGoOn
-steps_go_on_law blank c e keeps is =
+steps_go_on_law blank c e left is =
     let r = is.related in
     let talks = steps_keep_parties_law c e r.cluster is.living r.parties in
-    let left = keeps c e is in
     record {
       related =
           record {
@@ -81,7 +80,7 @@ opening_is_of_run c limits =
 related_from : (b : List ℕ) → StepsKeepPages b → (es : List Event) (c : Cluster) → IsOfRun b c → AllByRecursion (IsOfRun b) (run_from c es)
 unfolding run_from
 related_from b keeps [] c is = (is, tt)
-related_from b keeps (e ∷ es) c is = (is, related_from b keeps es (step c e) (steps_go_on_law b c e keeps is))
+related_from b keeps (e ∷ es) c is = (is, related_from b keeps es (step c e) (steps_go_on_law b c e (keeps c e is) is))
 
 pub runs_are_related_law : RunsAreRelated
 unfolding run
@@ -94,7 +93,7 @@ true_from : (b : List ℕ) → StepsKeepPages b → (es : List Event) (c : Clust
 unfolding run_from
 true_from b keeps [] c is fresh = (true_of b c is fresh, tt)
 true_from b keeps (e ∷ es) c is fresh =
-    let next = steps_go_on_law b c e keeps is in
+    let next = steps_go_on_law b c e (keeps c e is) is in
     (true_of b c is fresh, true_from b keeps es (step c e) next (related_stays_fresh_law b c e is.related.cluster fresh next.related))
 
 pub runs_are_true_law : RunsAreTrue

@@ -50,7 +50,7 @@ StepsKeepPages blank = (c : Cluster) (e : Event) → IsOfRun blank c → LeavesP
 
 -- Then all else is kept too.
 abbrev pub StepsGoOn : Type 0
-StepsGoOn = (blank : List ℕ) (c : Cluster) (e : Event) → StepsKeepPages blank → IsOfRun blank c → IsOfRun blank (step c e)
+StepsGoOn = (blank : List ℕ) (c : Cluster) (e : Event) → LeavesPages blank (step c e) → IsOfRun blank c → IsOfRun blank (step c e)
 
 -- So it holds of every cluster of a run.
 abbrev pub RunsAreRelated : Type 0

@@ -3,12 +3,12 @@
 ghost use Rattle.related_runs.specs.Kinds.{KindsAreAll};
 ghost use Rattle.related_runs.specs.RunLaws.{StepsGoOn, RunsAreRelated, RunsAreTrue, RunsAreSafe};
 
-/// Each step keeps the pages related, where the steps of each kind do.
+/// A step keeps the pages of a cluster of a run related, where the steps of each kind from that cluster do.
 pub fn kinds_are_all()
     ensures { KindsAreAll }
 {}
 
-/// Where each step keeps the pages related, it keeps all else that holds of a related cluster.
+/// Where a step leaves the pages related, it keeps all else that holds of a cluster of a run.
 pub fn steps_go_on()
     ensures { StepsGoOn }
 {}
