@@ -3,10 +3,10 @@ use Rattle.std.proofs.Common.{◌≡◌, refl, subst, ℕ, suc, eqb, ltb, Bool, 
 use Rattle.std.specs.Prelude.{⊤, List}
 use Rattle.pcl_base.specs.declared.tx.Mode.TheVariants.{Shared}
 use Rattle.page_protocol.specs.Authority.{dropping, giving, granting, losing, releasing, releasing_change, releasing_to_disk, returning, spending}
-use Rattle.page_protocol.specs.Eras.{completing, crashing, falling, joining, lost, purging, redoing, reporting, settled}
+use Rattle.page_protocol.specs.Eras.{burying, completing, crashing, falling, joining, lost, lowering, purging, redoing, reporting, settled}
 use Rattle.page_protocol.specs.Homes.{accepting, asking, committing, committing_reads, ending, keeping_right, reading, reading_under, taking_right, upgrading, writing}
 use Rattle.page_protocol.specs.State.{Dead, Flying, NoRight, Page, Returning, Right, Sent, Shelf, opening, pick, updn}
-use Rattle.page_protocol.specs.Steps.{Reached, Run, Step, accepts, asks, commits, commits_reads, completes, crashes, cuts, drops_answer, drops_grant, drops_right, ends_open, evicts, falls, flushes, gives_right, grants_lock, here, joins, keeps_right, loses, purges, purges_early, reads, reads_under, redoes, releases, releases_change, releases_early, releases_to_disk, reports, restores, retells, returns_right, revokes, takes_right, then, turns, upgrades, upgrades_reader, writes_piece}
+use Rattle.page_protocol.specs.Steps.{Reached, Run, Step, accepts, asks, buries, commits, commits_reads, completes, crashes, cuts, drops_answer, drops_grant, drops_right, ends_open, evicts, falls, flushes, gives_right, grants_lock, here, joins, keeps_right, loses, lowers, purges, purges_early, reads, reads_under, redoes, releases, releases_change, releases_early, releases_to_disk, reports, restores, retells, returns_right, revokes, takes_right, then, turns, upgrades, upgrades_reader, writes_piece}
 use Rattle.page_protocol.specs.Storage.{cutting, evicting, flushing, restoring}
 
 -- where a right is on its way, its grant is one to read
@@ -46,7 +46,7 @@ abbrev AllShared : Page → Type 0
 AllShared a = (n : ℕ) → IsShared (a.right n)
 
 step_shared : {a b : Page} → Step a b → AllShared a → AllShared b
-unfolding asking upgrading accepting taking_right keeping_right reading_under reading writing ending committing_reads committing granting giving spending returning dropping releasing releasing_change releasing_to_disk losing crashing falling purging redoing reporting joining completing restoring flushing evicting cutting
+unfolding asking upgrading accepting taking_right keeping_right reading_under reading writing ending committing_reads committing granting giving spending returning dropping releasing releasing_change releasing_to_disk losing crashing falling purging burying lowering redoing reporting joining completing restoring flushing evicting cutting
 step_shared {a} (asks t m e) all = all
 step_shared {a} (retells t m h e) all = all
 step_shared {a} (upgrades t e) all = all
@@ -62,8 +62,8 @@ step_shared {a} (commits_reads t g w) all = all
 step_shared {a} (commits t ranges h w f) all = all
 step_shared {a} (grants_lock t m w s n l f k) all = all
 step_shared {a} (gives_right t w s n r f k) all = changed a.right t.node (Flying (record { tx = t; mode = Shared; version = a.entry; word = w })) all refl
-step_shared {a} (revokes n v readers r e f) all = changed a.right n (Returning (suc a.era) readers) all tt
-step_shared {a} (turns n v e readers r p q f) all = changed a.right n (Returning e readers) all tt
+step_shared {a} (revokes n v readers r e f u) all = changed a.right n (Returning (suc a.era) readers) all tt
+step_shared {a} (turns n v e readers r p q f u h) all = changed a.right n (Returning e readers) all tt
 step_shared {a} (returns_right n readers r) all = changed a.right n NoRight all tt
 step_shared {a} (drops_right n r) all = changed a.right n NoRight all tt
 step_shared {a} (drops_grant n g r) all = changed a.right n NoRight all tt
@@ -78,7 +78,9 @@ step_shared {a} falls all = all
 step_shared {a} (purges n dead s l d) all = all
 step_shared {a} (redoes s) all = all
 step_shared {a} (purges_early n e dead p d) all = all
-step_shared {a} (reports n e p q) all = all
+step_shared {a} (buries e dead p closed) all = all
+step_shared {a} (lowers n upto low readers r p q f) all = changed a.right n (Returning low readers) all tt
+step_shared {a} (reports n e p q u) all = all
 step_shared {a} (joins n e p q f) all = all
 step_shared {a} (completes e o s p f) all = λ n. settled_shared e (a.right n) (all n)
 step_shared {a} (restores w p q r) all = all

@@ -1,16 +1,16 @@
 -- Who doesn't hold a page exclusively hasn't written it.
 use Rattle.std.proofs.Common.{◌≡◌, refl, sym, subst, ◌∙◌, ℕ, eqb, false, List, [], ◌∷◌, ◌++◌}
-use Rattle.std.specs.Prelude.{⊤}
+use Rattle.std.specs.Prelude.{⊤, leb}
 use Rattle.pcl_base.specs.declared.tx.Mode.{Mode}
 use Rattle.pcl_base.specs.declared.tx.Mode.TheVariants.{Shared, Exclusive}
 use Rattle.pcl_base.specs.declared.tx.TxId.{TxId}
 use Rattle.page_protocol.specs.Authority.{granting, giving, spending, registered, returning, dropping, releasing, releasing_change, releasing_to_disk, losing}
 use Rattle.page_protocol.specs.Bytes.{Access, Read, Write, writes}
-use Rattle.page_protocol.specs.Eras.{crashed, crashing, falling, forgotten, purging, redoing, reporting, joining, completing}
+use Rattle.page_protocol.specs.Eras.{crashed, crashing, falling, forgotten, purging, buried, burying, lowering, redoing, reporting, joining, completing}
 use Rattle.page_protocol.specs.Homes.{asking, upgrading, Waits, accepting, taking_right, keeping_right, reading_under, seen, reading, writing, ended, ending, committing_reads, committing}
 use Rattle.page_protocol.specs.State.{Home, Fresh, Asking, Holding, HoldingAsks, Reading, ReadingAsks, Ended, Gone, Page, IsGranted, opening}
 use Rattle.page_protocol.specs.State as machine
-use Rattle.page_protocol.specs.Steps.{Step, asks, retells, upgrades, upgrades_reader, accepts, takes_right, keeps_right, reads_under, reads, writes_piece, ends_open, commits_reads, commits, grants_lock, gives_right, revokes, turns, returns_right, drops_right, drops_grant, drops_answer, releases, releases_change, releases_to_disk, releases_early, loses, crashes, falls, purges, redoes, purges_early, reports, joins, completes, restores, flushes, evicts, cuts, Run, here, then, Reached}
+use Rattle.page_protocol.specs.Steps.{Step, asks, retells, upgrades, upgrades_reader, accepts, takes_right, keeps_right, reads_under, reads, writes_piece, ends_open, commits_reads, commits, grants_lock, gives_right, revokes, turns, returns_right, drops_right, drops_grant, drops_answer, releases, releases_change, releases_to_disk, releases_early, loses, crashes, falls, purges, redoes, purges_early, buries, lowers, reports, joins, completes, restores, flushes, evicts, cuts, Run, here, then, Reached}
 use Rattle.page_protocol.specs.Storage.{restoring, flushing, evicting, cutting}
 use Rattle.page_protocol.proofs.Basics.{by_test, by_tx}
 
@@ -49,6 +49,16 @@ forgotten_unwritten e Reading s u = u
 forgotten_unwritten e ReadingAsks s u = u
 forgotten_unwritten e (Ended change f) s u = by_test (eqb f e) (λ h. Unwritten h s) Gone (Ended change f) (λ q. tt) (λ q. tt)
 forgotten_unwritten e Gone s u = tt
+
+buried_unwritten : (e : ℕ) (h : Home) (s : List Access) → Unwritten h s → Unwritten (buried e h) s
+buried_unwritten e Fresh s u = u
+buried_unwritten e (Asking m have) s u = u
+buried_unwritten e (Holding m) s u = u
+buried_unwritten e HoldingAsks s u = u
+buried_unwritten e Reading s u = u
+buried_unwritten e ReadingAsks s u = u
+buried_unwritten e (Ended change f) s u = by_test (leb e f) (λ h. Unwritten h s) Gone (Ended change f) (λ q. tt) (λ q. tt)
+buried_unwritten e Gone s u = tt
 
 registered_unwritten : (h : Home) (s : List Access) → Unwritten h s → Unwritten (registered h) s
 registered_unwritten Fresh s u = u
@@ -105,7 +115,7 @@ stand_at : (a : Page) (t : TxId) (h : Home) → a.home t ≡ h → AllUnwritten 
 stand_at a t h e old = subst (λ (k : Home). Unwritten k (a.script t)) e (old t)
 
 step_unwritten : {a b : Page} → Step a b → AllUnwritten a → AllUnwritten b
-unfolding asking upgrading accepting taking_right keeping_right reading_under reading writing ending committing_reads committing granting giving spending returning dropping releasing releasing_change releasing_to_disk losing crashing falling purging redoing reporting joining completing restoring flushing evicting cutting
+unfolding asking upgrading accepting taking_right keeping_right reading_under reading writing ending committing_reads committing granting giving spending returning dropping releasing releasing_change releasing_to_disk losing crashing falling purging burying lowering redoing reporting joining completing restoring flushing evicting cutting
 step_unwritten {a} (asks t m e) old = home_unwritten a t _ (stand_at a t Fresh e old) old
 step_unwritten {a} (retells t m h e) old = home_unwritten a t _ (stand_at a t (Asking m h) e old) old
 step_unwritten {a} (upgrades t e) old = home_unwritten a t HoldingAsks (stand_at a t (Holding Shared) e old) old
@@ -123,9 +133,9 @@ step_unwritten {a} (commits_reads t granted none) old = home_unwritten a t _ (en
 step_unwritten {a} (commits t ranges e some made) old = home_unwritten a t _ tt old
 step_unwritten {a} (grants_lock t m w served nobody alone begun fits) old = old
 step_unwritten {a} (gives_right t w served nobody none begun fits) old = old
-step_unwritten {a} (revokes n v readers shelf takes all) old =
+step_unwritten {a} (revokes n v readers shelf takes all named) old =
     λ u. by_test (eqb u.node n) (λ h. Unwritten h (a.script u)) (registered (a.home u)) (a.home u) (λ e. registered_unwritten (a.home u) (a.script u) (old u)) (λ e. old u)
-step_unwritten {a} (turns n v e readers shelf over less all) old =
+step_unwritten {a} (turns n v e readers shelf over less all named used) old =
     λ u. by_test (eqb u.node n) (λ h. Unwritten h (a.script u)) (registered (a.home u)) (a.home u) (λ e. registered_unwritten (a.home u) (a.script u) (old u)) (λ e. old u)
 step_unwritten {a} (returns_right n readers e) old = old
 step_unwritten {a} (drops_right n e) old = old
@@ -144,7 +154,10 @@ step_unwritten {a} (purges n dead served none all) old =
 step_unwritten {a} (redoes served) old = old
 step_unwritten {a} (purges_early n e dead less all) old =
     λ u. by_test (dead u) (λ h. Unwritten h (a.script u)) (forgotten e (a.home u)) (a.home u) (λ q. forgotten_unwritten e (a.home u) (a.script u) (old u)) (λ q. old u)
-step_unwritten {a} (reports n e le less) old = old
+step_unwritten {a} (buries e dead less closed) old =
+    λ u. by_test (dead u) (λ h. Unwritten h (a.script u)) (buried e (a.home u)) (a.home u) (λ q. buried_unwritten e (a.home u) (a.script u) (old u)) (λ q. old u)
+step_unwritten {a} (lowers n upto low readers right over less closed) old = old
+step_unwritten {a} (reports n e le less used) old = old
 step_unwritten {a} (joins n e le upto closed) old = old
 step_unwritten {a} (completes e o off less complete) old = old
 step_unwritten {a} (restores w low high entry) old = old

@@ -4,11 +4,11 @@ use Rattle.std.specs.Prelude.{⊤, List}
 use Rattle.pcl_base.specs.declared.tx.TxId.{TxId}
 use Rattle.pcl_base.specs.declared.tx.Mode.TheVariants.{Shared}
 use Rattle.page_protocol.specs.Authority.{dropping, giving, granting, losing, releasing, releasing_change, releasing_to_disk, returning, spending}
-use Rattle.page_protocol.specs.Eras.{completing, crashing, falling, joining, lost, purging, redoing, reporting, settled}
+use Rattle.page_protocol.specs.Eras.{burying, completing, crashing, falling, joining, lost, lowering, purging, redoing, reporting, settled}
 use Rattle.page_protocol.specs.Homes.{accepting, asking, committing, committing_reads, ending, keeping_right, reading, reading_under, taking_right, upgrading, writing}
 use Rattle.page_protocol.specs.Laws.{IsGivenBackInTime}
 use Rattle.page_protocol.specs.State.{Dead, Flying, NoRight, Page, Returning, Right, Shelf, opening, pick, updn}
-use Rattle.page_protocol.specs.Steps.{Reached, Run, Step, accepts, asks, commits, commits_reads, completes, crashes, cuts, drops_answer, drops_grant, drops_right, ends_open, evicts, falls, flushes, gives_right, grants_lock, here, joins, keeps_right, loses, purges, purges_early, reads, reads_under, redoes, releases, releases_change, releases_early, releases_to_disk, reports, restores, retells, returns_right, revokes, takes_right, then, turns, upgrades, upgrades_reader, writes_piece}
+use Rattle.page_protocol.specs.Steps.{Reached, Run, Step, accepts, asks, buries, commits, commits_reads, completes, crashes, cuts, drops_answer, drops_grant, drops_right, ends_open, evicts, falls, flushes, gives_right, grants_lock, here, joins, keeps_right, loses, lowers, purges, purges_early, reads, reads_under, redoes, releases, releases_change, releases_early, releases_to_disk, reports, restores, retells, returns_right, revokes, takes_right, then, turns, upgrades, upgrades_reader, writes_piece}
 use Rattle.page_protocol.specs.Storage.{cutting, evicting, flushing, restoring}
 
 -- it is so of a node that has reached this era
@@ -71,7 +71,7 @@ abbrev AllInTime : Page → Type 0
 AllInTime a = (n : ℕ) → InTime (a.reached n) (a.right n)
 
 step_in_time : {a b : Page} → Step a b → AllInTime a → AllInTime b
-unfolding asking upgrading accepting taking_right keeping_right reading_under reading writing ending committing_reads committing granting giving spending returning dropping releasing releasing_change releasing_to_disk losing crashing falling purging redoing reporting joining completing restoring flushing evicting cutting
+unfolding asking upgrading accepting taking_right keeping_right reading_under reading writing ending committing_reads committing granting giving spending returning dropping releasing releasing_change releasing_to_disk losing crashing falling purging burying lowering redoing reporting joining completing restoring flushing evicting cutting
 step_in_time {a} (asks t m e) all = all
 step_in_time {a} (retells t m h e) all = all
 step_in_time {a} (upgrades t e) all = all
@@ -87,8 +87,8 @@ step_in_time {a} (commits_reads t g w) all = all
 step_in_time {a} (commits t ranges h w f) all = all
 step_in_time {a} (grants_lock t m w s n l f k) all = all
 step_in_time {a} (gives_right t w s n r f k) all = changed a.reached a.right t.node (Flying (record { tx = t; mode = Shared; version = a.entry; word = w })) all tt
-step_in_time {a} (revokes n v readers r e f) all = changed a.reached a.right n (Returning (suc a.era) readers) all (omega (arith, e))
-step_in_time {a} (turns n v e readers r p q f) all = turned a.reached a.right n e readers (omega (arith, q)) all
+step_in_time {a} (revokes n v readers r e f u) all = changed a.reached a.right n (Returning (suc a.era) readers) all (omega (arith, e))
+step_in_time {a} (turns n v e readers r p q f u h) all = turned a.reached a.right n e readers (omega (arith, q)) all
 step_in_time {a} (returns_right n readers r) all = changed a.reached a.right n NoRight all tt
 step_in_time {a} (drops_right n r) all = changed a.reached a.right n NoRight all tt
 step_in_time {a} (drops_grant n g r) all = changed a.reached a.right n NoRight all tt
@@ -103,7 +103,10 @@ step_in_time {a} falls all = all
 step_in_time {a} (purges n dead s l d) all = all
 step_in_time {a} (redoes s) all = all
 step_in_time {a} (purges_early n e dead p d) all = all
-step_in_time {a} (reports n e p q) all = moved a.reached a.right n e (omega (arith, q)) all
+step_in_time {a} (buries e dead p closed) all = all
+step_in_time {a} (lowers n upto low readers r p q f) all =
+    changed a.reached a.right n (Returning low readers) all (let was : upto ≤ suc (a.reached n) = subst (InTime (a.reached n)) r (all n) in omega arith)
+step_in_time {a} (reports n e p q u) all = moved a.reached a.right n e (omega (arith, q)) all
 step_in_time {a} (joins n e p q f) all = moved a.reached a.right n e q all
 step_in_time {a} (completes e o s p f) all = λ n. settled_in_time (a.reached n) e (a.right n) (all n)
 step_in_time {a} (restores w p q r) all = all

@@ -5,11 +5,12 @@ use mathlib.Core.Logic.{inl}
 use Rattle.page_protocol.specs.Authority.{spending}
 use Rattle.page_protocol.specs.Invariant.{Inv}
 use Rattle.page_protocol.specs.State.{Page, opening}
-use Rattle.page_protocol.specs.Steps.{Step, asks, retells, upgrades, upgrades_reader, accepts, takes_right, keeps_right, reads_under, reads, writes_piece, ends_open, commits_reads, commits, grants_lock, gives_right, revokes, turns, returns_right, drops_right, drops_grant, drops_answer, releases, releases_change, releases_to_disk, releases_early, loses, crashes, falls, purges, redoes, purges_early, reports, joins, completes, restores, flushes, evicts, cuts, Run, here, then, Reached}
+use Rattle.page_protocol.specs.Steps.{Step, asks, retells, upgrades, upgrades_reader, accepts, takes_right, keeps_right, reads_under, reads, writes_piece, ends_open, commits_reads, commits, grants_lock, gives_right, revokes, turns, returns_right, drops_right, drops_grant, drops_answer, releases, releases_change, releases_to_disk, releases_early, loses, crashes, falls, purges, redoes, purges_early, buries, lowers, reports, joins, completes, restores, flushes, evicts, cuts, Run, here, then, Reached}
 use Rattle.page_protocol.proofs.KeepsStorage.{keeps_restores, keeps_flushes, keeps_evicts, keeps_cuts}
 use Rattle.page_protocol.proofs.KeepsAuthority.{keeps_grants, keeps_gives, keeps_spends, keeps_returns, keeps_drops, keeps_drops_grant, keeps_drops_answer, keeps_releases, keeps_releases_early, keeps_loses, keeps_releases_change, keeps_releases_to_disk}
 use Rattle.page_protocol.proofs.KeepsHomes.{keeps_asks, keeps_retells, keeps_upgrades, keeps_upgrades_reader, keeps_accepts, keeps_keeps_right, keeps_takes_right, keeps_reads_under, keeps_reads, keeps_writes_piece, keeps_ends_open, keeps_commits_reads}
 use Rattle.page_protocol.proofs.KeepsEras.{keeps_crashes, keeps_falls, keeps_purges, keeps_purges_early, keeps_redoes, keeps_reports, keeps_joins, keeps_completes}
+use Rattle.page_protocol.proofs.KeepsBuried.{keeps_buries, keeps_lowers}
 use Rattle.page_protocol.proofs.KeepsCommits.{keeps_commits}
 
 pub keeps : (blank : List ℕ) {a b : Page} → Step a b → Inv blank a → Inv blank b
@@ -29,8 +30,8 @@ keeps blank {a} (commits_reads t g w) i = keeps_commits_reads blank a i t g w
 keeps blank {a} (commits t ranges h w f) i = keeps_commits blank a i t ranges h w f
 keeps blank {a} (grants_lock t m w s n l f k) i = keeps_grants blank a i t m w s n l f k
 keeps blank {a} (gives_right t w s n r f k) i = keeps_gives blank a i t w s n r f k
-keeps blank {a} (revokes n v readers r e f) i = keeps_spends blank a i n v (suc a.era) readers r (omega arith) f
-keeps blank {a} (turns n v e readers r p q f) i = keeps_reports blank (spending a n e readers) (keeps_spends blank a i n v e readers r q f) n e p q
+keeps blank {a} (revokes n v readers r e f u) i = keeps_spends blank a i n v (suc a.era) readers r (omega arith) f
+keeps blank {a} (turns n v e readers r p q f u h) i = keeps_reports blank (spending a n e readers) (keeps_spends blank a i n v e readers r q f) n e p q
 keeps blank {a} (returns_right n readers r) i = keeps_returns blank a i n readers r
 keeps blank {a} (drops_right n r) i = keeps_drops blank a i n r
 keeps blank {a} (drops_grant n g r) i = keeps_drops_grant blank a i n g r
@@ -45,7 +46,9 @@ keeps blank {a} falls i = keeps_falls blank a i
 keeps blank {a} (purges n dead s l d) i = keeps_purges blank a i n dead l d
 keeps blank {a} (redoes s) i = keeps_redoes blank a i
 keeps blank {a} (purges_early n e dead p d) i = keeps_purges_early blank a i n e dead p d
-keeps blank {a} (reports n e p q) i = keeps_reports blank a i n e p q
+keeps blank {a} (buries e dead p closed) i = keeps_buries blank a i e dead p closed
+keeps blank {a} (lowers n upto low readers r p q f) i = keeps_lowers blank a i n upto low readers r p q f
+keeps blank {a} (reports n e p q u) i = keeps_reports blank a i n e p q
 keeps blank {a} (joins n e p q f) i = keeps_joins blank a i n e p q f
 keeps blank {a} (completes e o s p f) i = keeps_completes blank a i e o p f.0 f.1
 keeps blank {a} (restores w p q r) i = keeps_restores blank a i w p q r

@@ -198,7 +198,7 @@ module _ (blank : List ℕ) (a : Page) (i : Inv blank a) where
       locks_unlist (locks_free i.locks_hold t Gone refl tt) (λ u f. same_tx u t && eqb f e)
       (λ u f d. gone u f d (λ k. lock_of k ≡ Free) refl)
       (λ u f g d q. let w = and_true (same_tx u t) (eqb f e) d in let s = eqb_true f e w.1 in
-      back (λ x. a.listed x g ≡ None) (same_tx_true u t w.0) (ended_later a.era (a.reached t.node) (a.listed t) (a.home t) c e h (i.locks_hold.ends t) g (omega arith) (omega arith)))
+      inl (back (λ x. a.listed x g ≡ None) (same_tx_true u t w.0) (ended_later a.era (a.reached t.node) (a.listed t) (a.home t) c e h (i.locks_hold.ends t) g (omega arith) (omega arith))))
       (λ u f k d. gone u f d (λ x. x ≡ Ended k f → ⊥) (λ x. absurd (cc)))
     where
       gone : (u : TxId) (f : ℕ) → (same_tx u t && eqb f e) ≡ true → (P : Home → Type 0) → P Gone → P (upd a.home t Gone u)

@@ -97,7 +97,7 @@ module _ (blank : List ℕ) (a : Page) (i : Inv blank a) where
       record {
         locks_hold = locks_unlist (locks_forgotten i.locks_hold e dead) (λ t f. dead t && eqb f e)
             (λ t f d. let w = and_true (dead t) (eqb f e) d in ap lock_of (pick_same (dead t) (forgotten e (a.home t)) (a.home t) w.0) ∙ forgotten_lock e (a.home t) ∙ closed_lock (a.home t) (is t w.0).1)
-            (λ t f g d q. let w = and_true (dead t) (eqb f e) d in let s = eqb_true f e w.1 in (is t w.0).2 g (omega arith))
+            (λ t f g d q. let w = and_true (dead t) (eqb f e) d in let s = eqb_true f e w.1 in inl ((is t w.0).2 g (omega arith)))
             (λ t f c d. let w = and_true (dead t) (eqb f e) d in let s = eqb_true f e w.1 in
             back (λ x. x ≢ Ended c f) (pick_same (dead t) (forgotten e (a.home t)) (a.home t) w.0) (back (λ x. forgotten e (a.home t) ≢ Ended c x) s (forgotten_not e (a.home t) c)));
         grants_hold = grants_listed (grants_homes i.grants_hold (λ t. pick (dead t) (forgotten e (a.home t)) (a.home t))

@@ -10,8 +10,10 @@ pub mod KeepsCommits
 pub mod KeepsAuthority
 pub mod KeepsEras
 pub mod KeepsStorage
+pub mod KeepsBuried
 pub mod Keeps
 pub mod Promises
 pub mod GivenBack
+pub mod Used
 pub mod RowRuns
 pub mod MoreRuns

@@ -8,7 +8,7 @@ use mathlib.Core.Logic.{inl, inr}
 use Rattle.page_protocol.specs.Invariant.{Names, Covered, Locked, EndsOk, Locks}
 use Rattle.page_protocol.specs.Homes.{ended}
 use Rattle.page_protocol.specs.State.{pick, upd, updn, has, Right, NoRight, Returning, Home, Fresh, Asking, Holding, HoldingAsks, Reading, ReadingAsks, Ended, Gone, Lock, Free, Registered, UnderRight, lock_of, InEra, IsShelf}
-use Rattle.page_protocol.proofs.Basics.{by_test, by_tx, by_node, along, back, covered_more, locked_more, ends_kept}
+use Rattle.page_protocol.proofs.Basics.{by_test, by_tx, by_node, pick_same, along, back, covered_more, locked_more, ends_kept}
 
 module _ {era : ℕ} {reached : ℕ → ℕ} {listed : TxId → ℕ → Option Mode} {right : ℕ → Right} {home : TxId → Home} (i : Locks era reached listed right home) where
   -- one home changes
@@ -116,10 +116,10 @@ module _ {era : ℕ} {reached : ℕ → ℕ} {listed : TxId → ℕ → Option M
       less P l k (inl e) f p = back P e p
       less P l k (inr e) f p = back P e f
 
-  -- transactions without a lock leave the table of an era, and no later era lists them
+  -- transactions without a lock leave the tables of eras, and no later era goes on listing them
   pub locks_unlist : (drop : TxId → ℕ → Bool)
       → ((t : TxId) (e : ℕ) → drop t e ≡ true → lock_of (home t) ≡ Free)
-      → ((t : TxId) (e f : ℕ) → drop t e ≡ true → e < f → listed t f ≡ None)
+      → ((t : TxId) (e f : ℕ) → drop t e ≡ true → e < f → (listed t f ≡ None) ⊎ (drop t f ≡ true))
       → ((t : TxId) (e : ℕ) (c : Option ℕ) → drop t e ≡ true → home t ≢ Ended c e)
       → Locks era reached (λ t e. pick (drop t e) None (listed t e)) right home
   locks_unlist drop free later unended =
@@ -129,7 +129,7 @@ module _ {era : ℕ} {reached : ℕ → ℕ} {listed : TxId → ℕ → Option M
         exclusive = λ t u x. first t u (was t era Exclusive x);
         no_rights = λ t n x. i.no_rights t n (was t era Exclusive x);
         chain = λ t e f m p q l. by_test (drop t e) (λ y. Covered y (right t.node) e t m) None (listed t e)
-            (λ d. absurd (let z = later t e f d q in let w = was t f m l in cc))
+            (λ d. absurd (gone t f m (later t e f d q) l))
             (λ d. i.chain t e f m p q (was t f m l));
         locks = λ t e p q. by_test (drop t e) (λ y. Locked y (right t.node) e t (lock_of (home t))) None (listed t e)
             (λ d. back (λ k. Locked None (right t.node) e t k) (free t e d) tt) (λ d. i.locks t e p q);
@@ -142,6 +142,10 @@ module _ {era : ℕ} {reached : ℕ → ℕ} {listed : TxId → ℕ → Option M
     where
       was : (t : TxId) (e : ℕ) (m : Mode) → pick (drop t e) None (listed t e) ≡ Some m → listed t e ≡ Some m
       was t e m = by_test (drop t e) (λ y. y ≡ Some m → listed t e ≡ Some m) None (listed t e) (λ d x. absurd (cc)) (λ d x. x)
+
+      gone : (t : TxId) (f : ℕ) (m : Mode) → (listed t f ≡ None) ⊎ (drop t f ≡ true) → pick (drop t f) None (listed t f) ≡ Some m → ⊥
+      gone t f m (inl none) l = absurd (let w = was t f m l in cc)
+      gone t f m (inr dropped) l = absurd (let w = pick_same (drop t f) None (listed t f) dropped in cc)
 
       first : (t u : TxId) → listed t era ≡ Some Exclusive → (pick (drop u era) None (listed u era) ≡ None) ⊎ (u ≡ t)
       first t u x = by_test (drop u era) (λ y. (y ≡ None) ⊎ (u ≡ t)) None (listed u era) (λ d. inl refl) (λ d. i.exclusive t u x)

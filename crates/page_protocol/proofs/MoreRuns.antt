@@ -1,11 +1,12 @@
 -- The worked schedules of one page, step by step.
-use Rattle.std.specs.Prelude.{ℕ, ◌≤◌, Bool, true, false, ◌&&◌, ◌||◌, eqb, ◌≡◌, ◌≢◌, ◌⊎◌, [], ◌∷◌, Option, Some, None}
+use Rattle.std.specs.Prelude.{ℕ, ◌≤◌, Bool, true, false, ◌&&◌, ◌||◌, eqb, ◌≡◌, ◌≢◌, ◌⊎◌, List, [], ◌∷◌, Option, Some, None}
 use Rattle.std.proofs.Common.{refl, sym, ap, subst, arith}
 use Rattle.pcl_base.specs.declared.tx.TxId.{TxId}
 use Rattle.pcl_base.specs.declared.tx.Mode.{Mode}
 use Rattle.pcl_base.specs.declared.tx.Mode.TheVariants.{Shared, Exclusive}
 use mathlib.Core.Logic.{inl, inr}
-use Rattle.page_protocol.specs.Authority.{granting, Alone, giving, spending, IsReading, returning, releasing, releasing_change, losing}
+use Rattle.page_protocol.specs.Authority.{granting, Alone, giving, spending, IsReading, LockUsed, returning, releasing, releasing_change, losing}
+use Rattle.page_protocol.specs.Bytes.{Access, Read, Write}
 use Rattle.page_protocol.specs.Eras.{crashed, crashing, falling, reported, reports_for, reporting, joining, settled, completing}
 use Rattle.page_protocol.specs.Homes.{asking, accepting, taking_right, reading, writing, committing_reads, committing}
 use Rattle.page_protocol.specs.State.{pick, same_tx, has, Current, Image, OnDisk, Right, NoRight, Home, Fresh, Asking, Holding, Reading, Ended, Gone, lock_of, InEra, Page, opening, IsClosed, IsShelf}
@@ -53,6 +54,17 @@ only_reader t =
     P : TxId → Home → Type 0
     P v k = IsReading k → has v (first_of 0 1 ∷ []) ≡ true
 
+something : (x : Access) (xs : List Access) → (x ∷ xs) ≢ []
+something x xs e = absurd (cc)
+
+or_false : (b : Bool) → (b || false) ≡ true → b ≡ true
+or_false true e = refl
+or_false false e = e
+
+named_read : (t : TxId) → has t (first_of 0 1 ∷ []) ≡ true → reader_open.script t ≢ []
+unfolding asking giving taking_right reading
+named_read t h = subst (λ v. reader_open.script v ≢ []) (same_tx_true (first_of 0 1) t (or_false (same_tx (first_of 0 1) t) h)) (something (Read (begins 0)) [])
+
 gone_by : (b c : Bool) → (b ≡ false → c ≡ false) → pick (b && eqb 1 1) None (pick ((c || false) && eqb 1 1) (Some Shared) None) ≡ None
 gone_by true c f = refl
 gone_by false false f = refl
@@ -82,7 +94,7 @@ unfolding asking giving taking_right reading spending returning committing_reads
 ended_run =
     then (then (then (then (then reader_run
     (asks (first_of 1 1) Exclusive refl))
-    (revokes 0 0 (first_of 0 1 ∷ []) refl refl (λ t n r. only_reader t r)))
+    (revokes 0 0 (first_of 0 1 ∷ []) refl refl (λ t n r. only_reader t r) (λ t n h. named_read t h)))
     (returns_right 0 (first_of 0 1 ∷ []) refl))
     (commits_reads (first_of 0 1) tt refl))
     (releases (first_of 0 1) None refl (λ e. absurd (cc)))
@@ -130,6 +142,12 @@ left_quiet true d e = absurd (cc)
 left_quiet false true e = refl
 left_quiet false false e = refl
 
+left_used : (s d : Bool) (x : Access) → LockUsed (lock_of (left s d)) (pick s (x ∷ []) [])
+left_used true true x = tt
+left_used true false x = something x []
+left_used false true x = tt
+left_used false false x = tt
+
 left_listed : (s : Bool) → pick (s && eqb 2 1) (Some Exclusive) None ≡ None
 left_listed true = refl
 left_listed false = refl
@@ -142,6 +160,12 @@ waiting_quiet true r d = refl
 waiting_quiet false true d = refl
 waiting_quiet false false true = refl
 waiting_quiet false false false = refl
+
+waiting_used : (s r d : Bool) (script : List Access) → LockUsed (lock_of (waiting s r d)) script
+waiting_used true r d script = tt
+waiting_used false true d script = tt
+waiting_used false false true script = tt
+waiting_used false false false script = tt
 
 waiting_free : (s r d : Bool) (e x : ℕ) → InEra (lock_of (pick s Gone (waiting s r d))) e x
 waiting_free true r d e x = tt
@@ -176,10 +200,10 @@ rebuilt_run : Run (opening (begins 0) 1 1) rebuilt
 unfolding asking granting accepting writing falling crashing reporting committing losing completing
 rebuilt_run =
     then (then (then (then (then (then lost_run
-    (reports 0 2 (omega arith) (omega arith)))
+    (reports 0 2 (omega arith) (omega arith) (λ t k. left_used (same_tx t (first_of 2 1)) (eqb t.node 1) (Write 0 (5 ∷ [])))))
     (asks (first_of 0 1) Shared refl))
     (commits (first_of 2 1) (first_byte 5) refl refl refl))
-    (reports 2 2 (omega arith) (omega arith)))
+    (reports 2 2 (omega arith) (omega arith) (λ t k. waiting_used (same_tx t (first_of 2 1)) (same_tx t (first_of 0 1)) (eqb t.node 1) (commit_rebuilding.script t))))
     (loses (first_of 2 1) (Some 1) 1 refl (λ e. refl)))
     (completes 2 0 refl (omega arith) (λ t. waiting_free (same_tx t (first_of 2 1)) (same_tx t (first_of 0 1)) (eqb t.node 1) 2 _, λ n. no_shelf (eqb n 1) 2 _))
 
@@ -200,6 +224,10 @@ fresh_quiet false = refl
 fresh_free : (d : Bool) (e x : ℕ) → InEra (lock_of (pick d Fresh Fresh)) e x
 fresh_free true e x = tt
 fresh_free false e x = tt
+
+fresh_used : (d : Bool) → LockUsed (lock_of (pick d Fresh Fresh)) []
+fresh_used true = tt
+fresh_used false = tt
 
 fresh_closed : (d : Bool) → IsClosed (pick d Fresh Fresh)
 fresh_closed true = tt
@@ -235,10 +263,10 @@ back_run =
     then (then (then (then (then (then (then (then here
     falls)
     (crashes 1 (λ s o. absurd (cc))))
-    (reports 0 2 (omega arith) (omega arith)))
+    (reports 0 2 (omega arith) (omega arith) (λ t k. fresh_used (eqb t.node 1))))
     (completes 2 0 refl (omega arith) (λ t. fresh_free (eqb t.node 1) 2 _, λ n. no_shelf (eqb n 1) 2 _)))
     falls)
-    (reports 0 3 (omega arith) (omega arith)))
+    (reports 0 3 (omega arith) (omega arith) (λ t k. fresh_used (eqb t.node 1))))
     (joins 1 3 (omega arith) (omega arith) (λ t n. fresh_closed (eqb t.node 1))))
     (completes 3 1 refl (omega arith) (λ t. fresh_free (eqb t.node 1) 3 _, λ n. none_shelf (left_alone.right n) 3 _ (alone_rights n)))
 
@@ -289,6 +317,19 @@ stopped_quiet false true false = refl
 stopped_quiet false false true = refl
 stopped_quiet false false false = refl
 
+lost_used : (s d : Bool) (script : List Access) → LockUsed (lock_of (lost_homes s d)) script
+lost_used true d script = tt
+lost_used false true script = tt
+lost_used false false script = tt
+
+stopped_used : (s d z : Bool) (script : List Access) → LockUsed (lock_of (stopped_homes s d z)) script
+stopped_used true d true script = tt
+stopped_used true d false script = tt
+stopped_used false true true script = tt
+stopped_used false true false script = tt
+stopped_used false false true script = tt
+stopped_used false false false script = tt
+
 stopped_free : (s d z : Bool) (e x : ℕ) → InEra (lock_of (stopped_homes s d z)) e x
 stopped_free true d true e x = tt
 stopped_free true d false e x = tt
@@ -324,15 +365,15 @@ stopped_run byte =
     falls)
     (crashes 1 (λ s o. absurd (cc))))
     (loses (first_of 2 1) (Some 1) 1 refl (λ e. refl)))
-    (reports 0 2 (omega arith) (omega arith)))
-    (reports 2 2 (omega arith) (omega arith)))
+    (reports 0 2 (omega arith) (omega arith) (λ t k. lost_used (same_tx t (first_of 2 1)) (eqb t.node 1) ((release_lost byte).script t))))
+    (reports 2 2 (omega arith) (omega arith) (λ t k. lost_used (same_tx t (first_of 2 1)) (eqb t.node 1) ((release_lost byte).script t))))
     (crashes 0 (λ s o. absurd (cc)))
 
 pub unwritten_run : (byte : ℕ) → Run (opening (begins 0) 1 1) (read_after (stopped_before byte))
 unfolding asking granting accepting writing committing falling crashing losing reporting completing reading committing_reads releasing
 unwritten_run byte =
     then (then (then (then (then (then (then (then (stopped_run byte)
-    (reports 2 3 (omega arith) (omega arith)))
+    (reports 2 3 (omega arith) (omega arith) (λ t k. stopped_used (same_tx t (first_of 2 1)) (eqb t.node 1) (eqb t.node 0) ((stopped_before byte).script t))))
     (completes 3 2 refl (omega arith) (λ t. stopped_free (same_tx t (first_of 2 1)) (eqb t.node 1) (eqb t.node 0) 3 _, λ n. none_shelf ((stopped_before byte).right n) 3 _ (stopped_rights byte n))))
     (asks second_reader Shared refl))
     (grants_lock second_reader Shared Current refl (λ u. not_writing _ (stopped_lists byte u)) tt (λ f. f) (λ p. refl)))
@@ -346,7 +387,7 @@ unfolding asking granting accepting writing committing falling crashing losing r
 written_run byte =
     then (then (then (then (then (then (then (then (then (stopped_run byte)
     (restores 1 (omega arith) (omega arith) (λ s. absurd (cc))))
-    (reports 2 3 (omega arith) (omega arith)))
+    (reports 2 3 (omega arith) (omega arith) (λ t k. stopped_used (same_tx t (first_of 2 1)) (eqb t.node 1) (eqb t.node 0) ((stopped_before byte).script t))))
     (completes 3 2 refl (omega arith) (λ t. stopped_free (same_tx t (first_of 2 1)) (eqb t.node 1) (eqb t.node 0) 3 _, λ n. none_shelf ((stopped_before byte).right n) 3 _ (stopped_rights byte n))))
     (asks second_reader Shared refl))
     (grants_lock second_reader Shared Current refl (λ u. not_writing _ (stopped_lists byte u)) tt (λ f. f) (λ p. refl)))

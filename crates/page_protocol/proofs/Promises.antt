@@ -5,12 +5,12 @@ use Rattle.pcl_base.specs.declared.tx.TxId.{TxId}
 use Rattle.pcl_base.specs.declared.tx.Mode.TheVariants.{Shared, Exclusive}
 use mathlib.Core.Logic.{inl, inr}
 use Rattle.page_protocol.specs.Authority.{granting, giving, spending, returning, dropping, releasing, releasing_change, releasing_to_disk, losing}
-use Rattle.page_protocol.specs.Eras.{crashing, falling, purging, redoing, reporting, joining, completing}
+use Rattle.page_protocol.specs.Eras.{crashing, falling, purging, burying, lowering, redoing, reporting, joining, completing}
 use Rattle.page_protocol.specs.Invariant.{Locked, RightOk, IsCopy, Logged, SlotOk, ScriptOk, Inv}
 use Rattle.page_protocol.specs.Homes.{asking, upgrading, accepting, taking_right, keeping_right, reading_under, seen_by, reading, writing, ending, committing_reads, committing}
 use Rattle.page_protocol.specs.State.{Sent, Home, Fresh, Asking, Holding, HoldingAsks, Reading, ReadingAsks, Ended, Gone, Lock, Free, Registered, UnderRight, lock_of, InEra, Page, current, IsGranted, IsShelf, version_of, bytes_of}
 use Rattle.page_protocol.specs.Laws.{Redo, stored, replayed, IsSerial, IsFreshAt, IsDurable, IsLoggedOnce, IsAlone, BringsCurrent, RightsAreCurrent, HistoryStays}
-use Rattle.page_protocol.specs.Steps.{Step, asks, retells, upgrades, upgrades_reader, accepts, takes_right, keeps_right, reads_under, reads, writes_piece, ends_open, commits_reads, commits, grants_lock, gives_right, revokes, turns, returns_right, drops_right, drops_grant, drops_answer, releases, releases_change, releases_to_disk, releases_early, loses, crashes, falls, purges, redoes, purges_early, reports, joins, completes, restores, flushes, evicts, cuts, Run, here, then}
+use Rattle.page_protocol.specs.Steps.{Step, asks, retells, upgrades, upgrades_reader, accepts, takes_right, keeps_right, reads_under, reads, writes_piece, ends_open, commits_reads, commits, grants_lock, gives_right, revokes, turns, returns_right, drops_right, drops_grant, drops_answer, releases, releases_change, releases_to_disk, releases_early, loses, crashes, falls, purges, redoes, purges_early, buries, lowers, reports, joins, completes, restores, flushes, evicts, cuts, Run, here, then}
 use Rattle.page_protocol.specs.Bytes.{Copy, Ranges, put_all, Leaves}
 use Rattle.page_protocol.specs.Storage.{restoring, flushing, evicting, cutting}
 use Rattle.page_protocol.proofs.Basics.{updn_other, not_above, along, back}
@@ -118,7 +118,7 @@ stays_same : (a : Page) → HistoryStays a a
 stays_same a = (omega arith, λ v p. refl, ([], append_nothing a.committed))
 
 pub history_step : {a b : Page} → Step a b → HistoryStays a b
-unfolding asking upgrading accepting taking_right keeping_right reading_under reading writing ending committing_reads committing granting giving spending returning dropping releasing releasing_change releasing_to_disk losing crashing falling purging redoing reporting joining completing restoring flushing evicting cutting
+unfolding asking upgrading accepting taking_right keeping_right reading_under reading writing ending committing_reads committing granting giving spending returning dropping releasing releasing_change releasing_to_disk losing crashing falling purging burying lowering redoing reporting joining completing restoring flushing evicting cutting
 history_step {a} (asks t m e) = stays_same a
 history_step {a} (retells t m h e) = stays_same a
 history_step {a} (upgrades t e) = stays_same a
@@ -132,8 +132,8 @@ history_step {a} (writes_piece t place piece h) = stays_same a
 history_step {a} (ends_open t) = stays_same a
 history_step {a} (grants_lock t m w s n l f k) = stays_same a
 history_step {a} (gives_right t w s n r f k) = stays_same a
-history_step {a} (revokes n v readers r e f) = stays_same a
-history_step {a} (turns n v e readers r p q f) = stays_same a
+history_step {a} (revokes n v readers r e f u) = stays_same a
+history_step {a} (turns n v e readers r p q f u h) = stays_same a
 history_step {a} (returns_right n readers r) = stays_same a
 history_step {a} (drops_right n r) = stays_same a
 history_step {a} (drops_grant n g r) = stays_same a
@@ -147,7 +147,9 @@ history_step {a} (crashes n f) = stays_same a
 history_step {a} (purges n dead s l d) = stays_same a
 history_step {a} (redoes s) = stays_same a
 history_step {a} (purges_early n e dead p d) = stays_same a
-history_step {a} (reports n e p q) = stays_same a
+history_step {a} (buries e dead p closed) = stays_same a
+history_step {a} (lowers n upto low readers r p q f) = stays_same a
+history_step {a} (reports n e p q u) = stays_same a
 history_step {a} (joins n e p q f) = stays_same a
 history_step {a} (completes e o s p f) = stays_same a
 history_step {a} (restores w p q r) = stays_same a

@@ -1,10 +1,11 @@
 -- The computed rows.
-use Rattle.std.specs.Prelude.{ℕ, ◌≤◌, Bool, true, false, ◌&&◌, eqb, ◌≡◌, ◌≢◌, ◌⊎◌, [], ◌∷◌, Option, Some, None}
+use Rattle.std.specs.Prelude.{ℕ, ◌≤◌, Bool, true, false, ◌&&◌, eqb, ◌≡◌, ◌≢◌, ◌⊎◌, List, [], ◌∷◌, Option, Some, None}
 use Rattle.std.proofs.Common.{refl, ap, arith}
 use Rattle.pcl_base.specs.declared.tx.TxId.{TxId}
 use Rattle.pcl_base.specs.declared.tx.Mode.TheVariants.{Shared, Exclusive}
 use mathlib.Core.Logic.{inl, inr}
-use Rattle.page_protocol.specs.Authority.{granting, NobodyWrites, Alone, WordFits, giving, NamesAll, releasing_change}
+use Rattle.page_protocol.specs.Authority.{granting, NobodyWrites, Alone, WordFits, giving, NamesAll, LockUsed, releasing_change}
+use Rattle.page_protocol.specs.Bytes.{Access, Read}
 use Rattle.page_protocol.specs.Eras.{falling, reporting, IsComplete, completing}
 use Rattle.page_protocol.specs.Homes.{asking, Takes, accepting, taking_right, reading, writing, committing}
 use Rattle.page_protocol.specs.State.{pick, same_tx, upd, updn, Current, Image, OnDisk, NoRight, Flying, Shelf, Home, Fresh, Asking, Holding, Reading, Ended, Gone, lock_of, InEra, opening, IsShelf}
@@ -94,14 +95,31 @@ shelf_moved n =
     by_node (λ k y. IsShelf y → 2 ≤ updn (updn (updn (λ n. 1) 2 2) 0 2) 1 2 k) 2 n (Shelf 1) (updn (λ n. NoRight) 2 (Flying next_grant) n) (λ s. omega arith)
     (by_node (λ k y. IsShelf y → 2 ≤ updn (updn (updn (λ n. 1) 2 2) 0 2) 1 2 k) 2 n (Flying next_grant) NoRight (λ s. absurd s) (λ s. absurd s))
 
+something : (x : Access) (xs : List Access) → (x ∷ xs) ≢ []
+something x xs e = absurd (cc)
+
+used_back : (u : TxId) → LockUsed (lock_of (read_back.home u)) (read_back.script u)
+unfolding asking granting accepting writing committing releasing_change giving taking_right reading
+used_back u =
+    by_tx P next_reader u Reading (upd (upd (upd (upd (upd (λ t. Fresh) first_writer (Asking Exclusive None)) first_writer (Holding Exclusive)) first_writer (Ended (Some 1) 1)) first_writer Gone) next_reader (Asking Shared None) u) (something (Read written) [])
+    (by_tx P next_reader u (Asking Shared None) (upd (upd (upd (upd (λ t. Fresh) first_writer (Asking Exclusive None)) first_writer (Holding Exclusive)) first_writer (Ended (Some 1) 1)) first_writer Gone u) tt
+    (by_test (same_tx u first_writer) (P u) Gone (upd (upd (upd (λ t. Fresh) first_writer (Asking Exclusive None)) first_writer (Holding Exclusive)) first_writer (Ended (Some 1) 1) u) (λ s. tt)
+    (λ s. before s)))
+  where
+    P : TxId → Home → Type 0
+    P v k = LockUsed (lock_of k) (read_back.script v)
+
+    before : same_tx u first_writer ≡ false → P u (upd (upd (upd (λ t. Fresh) first_writer (Asking Exclusive None)) first_writer (Holding Exclusive)) first_writer (Ended (Some 1) 1) u)
+    before s = rw (s) tt
+
 pub row_moved : Run (opening zeros 1 0) moved
 unfolding asking granting accepting writing committing releasing_change giving taking_right reading falling reporting
 row_moved =
     then (then (then (then (then row_run
-    (reports 2 2 (omega arith) (omega arith)))
+    (reports 2 2 (omega arith) (omega arith) (λ t k. used_back t)))
     falls)
-    (reports 0 2 (omega arith) (omega arith)))
-    (reports 1 2 (omega arith) (omega arith)))
+    (reports 0 2 (omega arith) (omega arith) (λ t k. used_back t)))
+    (reports 1 2 (omega arith) (omega arith) (λ t k. used_back t)))
     (completes 2 1 refl (omega arith) (all_moved, shelf_moved))
 
 pub row_moved_bars : Alone half_moved first_writer Exclusive → ⊥

@@ -1,9 +1,10 @@
 -- What the authority of the page does: grants, rights and their revocation, releases.
-use Rattle.std.specs.Prelude.{ℕ, ◌≤◌, true, ◌&&◌, eqb, ◌≡◌, ◌≢◌, ◌⊎◌, List, ◌∷◌, Option, Some, None}
+use Rattle.std.specs.Prelude.{ℕ, ◌≤◌, true, ◌&&◌, eqb, ◌≡◌, ◌≢◌, ◌⊎◌, List, [], ◌∷◌, Option, Some, None}
 use Rattle.pcl_base.specs.declared.tx.TxId.{TxId}
 use Rattle.pcl_base.specs.declared.tx.Mode.{Mode}
 use Rattle.pcl_base.specs.declared.tx.Mode.TheVariants.{Shared, Exclusive}
-use Rattle.page_protocol.specs.State.{pick, upd, updn, set_at, has, Word, Current, Image, OnDisk, NoRight, Flying, Returning, Home, Fresh, Asking, Holding, HoldingAsks, Reading, ReadingAsks, Ended, Gone, Page, version_of}
+use Rattle.page_protocol.specs.State.{pick, upd, updn, set_at, has, Word, Current, Image, OnDisk, NoRight, Flying, Returning, Home, Fresh, Asking, Holding, HoldingAsks, Reading, ReadingAsks, Ended, Gone, Lock, Free, Registered, UnderRight, lock_of, Page, version_of}
+use Rattle.page_protocol.specs.Bytes.{Access}
 
 -- A grant without a right: the transaction becomes a holder.
 unfoldable pub granting : Page → TxId → Mode → Word → Page
@@ -79,6 +80,20 @@ IsReading Gone = ⊥
 -- Each reader under the node's right is named.
 abbrev pub NamesAll : Page → ℕ → List TxId → Type 0
 NamesAll a n readers = (t : TxId) → t.node ≡ n → IsReading (a.home t) → has t readers ≡ true
+
+-- A lock that was used: its transaction has accessed the page.
+abbrev pub LockUsed : Lock → List Access → Type 0
+LockUsed Free script = Unit {0}
+LockUsed (Registered m) script = script ≢ []
+LockUsed UnderRight script = script ≢ []
+
+-- Each lock at the node was used.
+abbrev pub HaveUsed : Page → ℕ → Type 0
+HaveUsed a n = (t : TxId) → t.node ≡ n → LockUsed (lock_of (a.home t)) (a.script t)
+
+-- Each named transaction of the node has accessed the page.
+abbrev pub NamesUsed : Page → ℕ → List TxId → Type 0
+NamesUsed a n readers = (t : TxId) → t.node ≡ n → has t readers ≡ true → a.script t ≢ []
 
 -- A named reader becomes a holder where it isn't one.
 abbrev pub with_shared : Option Mode → Option Mode

@@ -1,5 +1,5 @@
 -- Losses of nodes, and the eras of authority.
-use Rattle.std.specs.Prelude.{ℕ, ◌<◌, ◌≤◌, Bool, true, false, ◌&&◌, eqb, ltb, leb, ◌≡◌, [], Option, Some, None}
+use Rattle.std.specs.Prelude.{ℕ, ◌<◌, ◌≤◌, Bool, true, false, ◌&&◌, eqb, ltb, leb, ◌≡◌, List, [], Option, Some, None}
 use Rattle.pcl_base.specs.declared.tx.TxId.{TxId}
 use Rattle.pcl_base.specs.declared.tx.Mode.{Mode}
 use Rattle.pcl_base.specs.declared.tx.Mode.TheVariants.{Shared}
@@ -61,6 +61,29 @@ purging a e dead =
       listed = λ t f. pick (dead t && eqb f e) None (a.listed t f);
       home = λ t. pick (dead t) (forgotten e (a.home t)) (a.home t);
     }
+
+-- A release of a transaction that is no more, to this era or a later one, is dropped.
+abbrev pub buried : ℕ → Home → Home
+buried e Fresh = Fresh
+buried e (Asking m h) = Asking m h
+buried e (Holding m) = Holding m
+buried e HoldingAsks = HoldingAsks
+buried e Reading = Reading
+buried e ReadingAsks = ReadingAsks
+buried e (Ended c f) = pick (leb e f) Gone (Ended c f)
+buried e Gone = Gone
+
+-- What era e and all later ones have of transactions that are no more is removed.
+unfoldable pub burying : Page → ℕ → (TxId → Bool) → Page
+burying a e dead =
+    record a {
+      listed = λ t f. pick (dead t && leb e f) None (a.listed t f);
+      home = λ t. pick (dead t) (buried e (a.home t)) (a.home t);
+    }
+
+-- An answer to a revocation counts for the eras below `low` alone.
+unfoldable pub lowering : Page → ℕ → ℕ → List TxId → Page
+lowering a n low readers = record a { right = updn a.right n (Returning low readers) }
 
 -- The page is redone from disk and logs, written, and the entry gets its version.
 unfoldable pub redoing : Page → Page

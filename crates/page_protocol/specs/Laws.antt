@@ -1,11 +1,11 @@
 -- What is promised of each page that a run leads to.
-use Rattle.std.specs.Prelude.{ℕ, ◌<◌, ◌≤◌, ◌≡◌, ◌⊎◌, List, ◌++◌, Option, Some, None}
+use Rattle.std.specs.Prelude.{ℕ, ◌<◌, ◌≤◌, true, ◌≡◌, ◌≢◌, ◌⊎◌, List, [], ◌++◌, Option, Some, None}
 use Rattle.std.proofs.Common.{suc}
 use Rattle.pcl_base.specs.declared.tx.TxId.{TxId}
 use Rattle.pcl_base.specs.declared.tx.Mode.TheVariants.{Exclusive}
 use Rattle.page_protocol.specs.Invariant.{Logged, Inv}
 use Rattle.page_protocol.specs.Homes.{Waits, Takes, seen}
-use Rattle.page_protocol.specs.State.{Sent, Shelf, Returning, Holding, Free, lock_of, Page, current, In, IsGranted, IsShelf, version_of, told_copy}
+use Rattle.page_protocol.specs.State.{has, Sent, Shelf, Returning, Holding, Free, lock_of, Page, current, In, IsGranted, IsShelf, version_of, told_copy}
 use Rattle.page_protocol.specs.Steps.{Step, Reached}
 use Rattle.page_protocol.specs.Bytes.{Copy, Ranges, put_all, Access, Leaves, Replays}
 
@@ -63,6 +63,14 @@ RightsAreCurrent a = (n v : ℕ) → a.right n ≡ Shelf v → v ≡ a.now
 -- A right that was given back was given back for no era above the one after that which its node has reached.
 abbrev pub IsGivenBackInTime : Page → Type 0
 IsGivenBackInTime a = (n upto : ℕ) (readers : List TxId) → a.right n ≡ Returning upto readers → upto ≤ suc (a.reached n)
+
+-- Whom an era after the serving one lists has accessed the page.
+abbrev pub LaterAreUsed : Page → Type 0
+LaterAreUsed a = (t : TxId) (f : ℕ) → a.era < f → (a.listed t f ≡ None → ⊥) → a.script t ≢ []
+
+-- Whom an answer to a revocation names has accessed the page.
+abbrev pub NamedAreUsed : Page → Type 0
+NamedAreUsed a = (n upto : ℕ) (readers : List TxId) → a.right n ≡ Returning upto readers → (t : TxId) → t.node ≡ n → has t readers ≡ true → a.script t ≢ []
 
 -- From one page to a later one the current version doesn't fall, the bytes of a version that there was
 -- stay, and so do the commits.

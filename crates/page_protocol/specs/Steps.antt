@@ -4,8 +4,8 @@ use Rattle.std.proofs.Common.{suc}
 use Rattle.pcl_base.specs.declared.tx.TxId.{TxId}
 use Rattle.pcl_base.specs.declared.tx.Mode.{Mode}
 use Rattle.pcl_base.specs.declared.tx.Mode.TheVariants.{Shared, Exclusive}
-use Rattle.page_protocol.specs.Authority.{granting, NobodyWrites, Alone, WordFits, giving, spending, NamesAll, returning, dropping, releasing, releasing_change, releasing_to_disk, losing}
-use Rattle.page_protocol.specs.Eras.{crashing, falling, IsDead, purging, redoing, reporting, joining, IsComplete, completing}
+use Rattle.page_protocol.specs.Authority.{granting, NobodyWrites, Alone, WordFits, giving, spending, NamesAll, HaveUsed, NamesUsed, returning, dropping, releasing, releasing_change, releasing_to_disk, losing}
+use Rattle.page_protocol.specs.Eras.{crashing, falling, IsDead, purging, burying, lowering, redoing, reporting, joining, IsComplete, completing}
 use Rattle.page_protocol.specs.Homes.{asking, upgrading, Waits, Takes, accepting, taking_right, keeping_right, reading_under, reading, writing, ending, committing_reads, committing}
 use Rattle.page_protocol.specs.State.{has, Word, Sent, NoRight, Flying, Shelf, Returning, Dead, Fresh, Asking, Holding, HoldingAsks, Reading, ReadingAsks, Ended, Page, opening, In, IsFresh, IsGranted, IsClosed}
 use Rattle.page_protocol.specs.Bytes.{Copy, Ranges, put_all, writes}
@@ -45,10 +45,10 @@ pub data Step (a : Page) : Page → Type 0 where
   grants_lock : (t : TxId) (m : Mode) (w : Word) → a.served ≡ true → NobodyWrites a → Alone a t m → (IsFresh (a.home t) → ⊥) → WordFits a t w → Step a (granting a t m w)
   -- A served table sends a grant with a right.
   gives_right : (t : TxId) (w : Word) → a.served ≡ true → NobodyWrites a → a.right t.node ≡ NoRight → (IsFresh (a.home t) → ⊥) → WordFits a t w → Step a (giving a t w)
-  -- A revocation comes to a node with a right, which answers with its readers.
-  revokes : (n v : ℕ) (readers : List TxId) → a.right n ≡ Shelf v → Takes a n → NamesAll a n readers → Step a (spending a n (suc a.era) readers)
+  -- A revocation comes to a node with a right, which answers with its readers, each of which has accessed the page.
+  revokes : (n v : ℕ) (readers : List TxId) → a.right n ≡ Shelf v → Takes a n → NamesAll a n readers → NamesUsed a n readers → Step a (spending a n (suc a.era) readers)
   -- A node that is to own a later era turns its right into locks, and goes on to that era.
-  turns : (n v e : ℕ) (readers : List TxId) → a.right n ≡ Shelf v → a.era ≤ a.reached n → a.reached n < e → NamesAll a n readers → Step a (reporting (spending a n e readers) n e)
+  turns : (n v e : ℕ) (readers : List TxId) → a.right n ≡ Shelf v → a.era ≤ a.reached n → a.reached n < e → NamesAll a n readers → NamesUsed a n readers → HaveUsed a n → Step a (reporting (spending a n e readers) n e)
   -- The answer to a revocation comes to the table.
   returns_right : (n : ℕ) (readers : List TxId) → a.right n ≡ Returning (suc a.era) readers → Step a (returning a n readers)
   -- A right that was lost with its node leaves the table.
@@ -78,8 +78,12 @@ pub data Step (a : Page) : Page → Type 0 where
   redoes : a.served ≡ true → Step a (redoing a)
   -- A table that is being rebuilt removes dead transactions.
   purges_early : (n e : ℕ) (dead : TxId → Bool) → a.era < e → IsDead a n e dead → Step a (purging a e dead)
-  -- A node goes on to a later era, and reports.
-  reports : (n e : ℕ) → a.era ≤ a.reached n → a.reached n < e → Step a (reporting a n e)
+  -- What eras from e on have of transactions that are no more is removed.
+  buries : (e : ℕ) (dead : TxId → Bool) → a.era < e → ((t : TxId) → dead t ≡ true → IsClosed (a.home t)) → Step a (burying a e dead)
+  -- An answer that never comes counts for no era from `low` on, once its readers are no more.
+  lowers : (n upto low : ℕ) (readers : List TxId) → a.right n ≡ Returning upto readers → a.era < low → low ≤ upto → ((t : TxId) → t.node ≡ n → has t readers ≡ true → IsClosed (a.home t) × ((f : ℕ) → low < f → a.listed t f ≡ None)) → Step a (lowering a n low readers)
+  -- A node, each of whose locks was used, goes on to a later era, and reports.
+  reports : (n e : ℕ) → a.era ≤ a.reached n → a.reached n < e → HaveUsed a n → Step a (reporting a n e)
   -- A node that starts afresh begins in an era.
   joins : (n e : ℕ) → a.era ≤ e → a.reached n ≤ e → ((t : TxId) → t.node ≡ n → IsClosed (a.home t)) → Step a (joining a n e)
   -- A later era is complete and serves.

@@ -5,7 +5,7 @@ ghost use Rattle.std.specs.Prelude.{ℕ, List};
 ghost use Rattle.pcl_base.specs.declared.tx.TxId.{TxId};
 ghost use Rattle.page_protocol.specs.State.{Page, Sent};
 ghost use Rattle.page_protocol.specs.Steps.{Run, Reached};
-ghost use Rattle.page_protocol.specs.Laws.{StepsKeep, RunsKeep, IsSerial, IsFreshAt, IsDurable, IsLoggedOnce, IsAlone, BringsCurrent, RightsAreCurrent, IsGivenBackInTime, HistoryStays};
+ghost use Rattle.page_protocol.specs.Laws.{StepsKeep, RunsKeep, IsSerial, IsFreshAt, IsDurable, IsLoggedOnce, IsAlone, BringsCurrent, RightsAreCurrent, IsGivenBackInTime, LaterAreUsed, NamedAreUsed, HistoryStays};
 
 /// Every step keeps the invariant, from every state that has it.
 pub fn steps_keep_the_invariant()
@@ -57,6 +57,16 @@ pub fn rights_are_current()
 /// A right that was given back was given back for no era above the one after that which its node has reached.
 pub fn rights_are_given_back_in_time()
     ensures { (blank : List ℕ) (a : Page) → Reached blank a → IsGivenBackInTime a }
+{}
+
+/// Whom an era after the serving one lists has accessed the page: a report lists no lock that wasn't used.
+pub fn later_eras_list_who_accessed()
+    ensures { (blank : List ℕ) (a : Page) → Reached blank a → LaterAreUsed a }
+{}
+
+/// Whom an answer to a revocation names has accessed the page.
+pub fn answers_name_who_accessed()
+    ensures { (blank : List ℕ) (a : Page) → Reached blank a → NamedAreUsed a }
 {}
 
 /// No run changes the bytes of a version that there is, takes a version back, or takes back a commit.

@@ -20,10 +20,11 @@ mod more_rows;
 mod rows;
 
 pub use laws::{
-    accesses_are_fresh, committed_scripts_replay, each_version_is_logged_once,
-    grants_bring_the_current_page, history_stays, one_writer_or_readers,
-    redo_gives_the_current_page, rights_are_current, rights_are_given_back_in_time,
-    runs_keep_the_invariant, steps_keep_the_invariant,
+    accesses_are_fresh, answers_name_who_accessed, committed_scripts_replay,
+    each_version_is_logged_once, grants_bring_the_current_page, history_stays,
+    later_eras_list_who_accessed, one_writer_or_readers, redo_gives_the_current_page,
+    rights_are_current, rights_are_given_back_in_time, runs_keep_the_invariant,
+    steps_keep_the_invariant,
 };
 pub use more_rows::{
     a_new_owner_stops_within_redo, a_node_comes_back, a_revocation_waits_for_an_open_reader,

@@ -15,6 +15,7 @@ use Rattle.cluster_rules.specs.Links.{link_at}
 use Rattle.era_laws.specs.Counts.{counts_in}
 use Rattle.era_laws.specs.Eras.{era_at, era_in}
 use Rattle.link_laws.specs.EpochLaws.{IsInOrder}
+use Rattle.page_protocol.specs.Authority.{HaveUsed}
 use Rattle.page_protocol.specs.Eras.{reporting}
 use Rattle.page_protocol.specs.State.{Page, Home, Holding, current, updn, version_of}
 use Rattle.page_protocol.specs.Steps.{Run, here, then, reports}
@@ -142,10 +143,10 @@ module _ (c : Cluster) (e : Event) (n p next : ℕ) (s j : NodeState) (w : Work)
       }
 
   -- the machine's run
-  pub run_gone : j.home.txs.node ≡ n → Run a (reported_on a n next)
+  pub run_gone : HaveUsed a n → j.home.txs.node ≡ n → Run a (reported_on a n next)
   unfolding reporting land
-  run_gone number =
-      and_then (then here (reports n next low below))
+  run_gone used number =
+      and_then (then here (reports n next low below used))
       (run_told (reporting a n next) n (names_of j.home.txs j.home.txs.txs) (λ u named. names_own j.home.txs j.home.txs.txs u named ∙ number)
       (λ u at unnamed. unnamed_closed j p (last_view c).epoch u (a.home u) unnamed
       (at_node c e n acts (with_node w j) u.node (λ o. StandsIn (last_view c).epoch o u p (a.home u)) at (r.homes.stands u))))

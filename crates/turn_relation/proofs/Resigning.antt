@@ -49,7 +49,7 @@ module _ (c : Cluster) (e : Event) (n p : ℕ) (s : NodeState) (old v : View) (w
   leads_given not_owner =
       tell_leads c e n p s (between c n p a.era s old v w.node acts may.has was.own has.owned may.other may.new upto has.place) v left a blank acts
       (has_after c n p a.era s old v w.node acts may.has was.own has.owned may.other may.new upto has.place) may.order may.parties may.none
-      (give_up_is_sound_law (partition c.config p) w.node may.home).1 may.heard may.back may.reached may.new may.other eras.1 below bounds.1 may.has.number keeps
+      (give_up_is_sound_law (partition c.config p) w.node may.home).1 may.heard may.back may.used may.reached may.new may.other eras.1 below bounds.1 may.has.number keeps
       (given c e n p (stood s.epoch s.view w.node.home.txs.born w.node) (between c n p a.era s old v w.node acts may.has was.own has.owned may.other may.new upto has.place) w a acts gives r
       not_owner)
 
@@ -59,7 +59,7 @@ module _ (c : Cluster) (e : Event) (n p : ℕ) (s : NodeState) (old v : View) (w
   leads_fallen owner =
       tell_leads c e n p s (between c n p a.era s old v w.node acts may.has was.own has.owned may.other may.new upto has.place) v left (falling a) blank acts
       (has_after c n p a.era s old v w.node acts may.has was.own has.owned may.other may.new upto has.place) may.order may.parties may.none
-      (give_up_is_sound_law (partition c.config p) w.node may.home).1 may.heard may.back (reached_on blank a (falling a) may.reached (then here falls)) may.new may.other eras.1 below bounds.1
+      (give_up_is_sound_law (partition c.config p) w.node may.home).1 may.heard may.back may.used (reached_on blank a (falling a) may.reached (then here falls)) may.new may.other eras.1 below bounds.1
       may.has.number keeps
       (fallen c e n p (stood s.epoch s.view w.node.home.txs.born w.node) (between c n p a.era s old v w.node acts may.has was.own has.owned may.other may.new upto has.place) w a acts gives r
       owner)

@@ -59,7 +59,7 @@ module _ (c : Cluster) (e : Event) (n p : ℕ) (s : NodeState) (v : View) (w : W
   unfolding joining
   leads_bounded =
       tell_leads c e n p s (stood s.epoch s.view s.home.txs.born w.node) v w (bounded c e n p s v w a acts may.has first r) blank acts may.has may.order may.parties may.none may.home
-      (heard_bounded c e n p s v w a acts may.has first r may.heard) (back_bounded c e n p s v w a acts may.has first r may.back)
+      (heard_bounded c e n p s v w a acts may.has first r may.heard) (back_bounded c e n p s v w a acts may.has first r may.back) may.used
       (reached_on blank a (bounded c e n p s v w a acts may.has first r) may.reached (then here (step_bounded c e n p s v w a acts may.has first r))) may.new may.other
       (low_bounded c e n p s v w a acts may.has first r).0
       (let same = (low_bounded c e n p s v w a acts may.has first r).1 in let less = era_less in omega (arith, same, less)) late may.has.number keeps_first

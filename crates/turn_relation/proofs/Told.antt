@@ -23,6 +23,7 @@ use Rattle.home_laws.specs.Homes.{IsHome}
 use Rattle.link_laws.specs.Coming.{coming}
 use Rattle.link_laws.specs.EpochLaws.{IsInOrder}
 use Rattle.page_protocol.proofs.Keeps.{reached_holds}
+use Rattle.page_protocol.specs.Authority.{HaveUsed}
 use Rattle.page_protocol.specs.State.{Page}
 use Rattle.page_protocol.specs.Steps.{Reached}
 use Rattle.page_relation.specs.Homes.{KindFits, KindIn}
@@ -42,7 +43,7 @@ use Rattle.turn_relation.proofs.Reporting.{MayReport, report_is_kept}
 use Rattle.turn_relation.proofs.Said.{report_says}
 use Rattle.turn_relation.proofs.Staying.{keeps_unowned}
 
-module _ (c : Cluster) (e : Event) (n p : ℕ) (s j : NodeState) (v : View) (w : Work) (a : Page) (blank : List ℕ) (acts : Acts c n) (has : HasNext c n s v w.node) (order : IsInOrder c) (parties : (x y : ℕ) → AllByRecursion (IsParty c x y) (link_at c.links x y)) (none : NoneSent c p w.sends) (home : IsHome w.node.home) (heard : IsHeard c p a) (back : IsBack a n) (reached : Reached blank a) (new : since_of v (partition c.config p) ≡ v.epoch) (other : (owner_of v (partition c.config p) == n) ≡ false) (low : a.era ≤ a.reached n) (below : a.reached n < v.epoch) (late : s.epoch < v.epoch) (named : j.home.txs.node ≡ n) (keeps : KeepsPage c p v.epoch a.era j w.node) (r : IsWorkOf c e n p (with_node w j) a) where
+module _ (c : Cluster) (e : Event) (n p : ℕ) (s j : NodeState) (v : View) (w : Work) (a : Page) (blank : List ℕ) (acts : Acts c n) (has : HasNext c n s v w.node) (order : IsInOrder c) (parties : (x y : ℕ) → AllByRecursion (IsParty c x y) (link_at c.links x y)) (none : NoneSent c p w.sends) (home : IsHome w.node.home) (heard : IsHeard c p a) (back : IsBack a n) (used : HaveUsed a n) (reached : Reached blank a) (new : since_of v (partition c.config p) ≡ v.epoch) (other : (owner_of v (partition c.config p) == n) ≡ false) (low : a.era ≤ a.reached n) (below : a.reached n < v.epoch) (late : s.epoch < v.epoch) (named : j.home.txs.node ≡ n) (keeps : KeepsPage c p v.epoch a.era j w.node) (r : IsWorkOf c e n p (with_node w j) a) where
   gone : IsWorkOf c e n p w (reported_on a n v.epoch)
   gone = related_gone c e n p v.epoch s j w a acts has.up order parties none late low below heard keeps r
 
@@ -80,7 +81,7 @@ module _ (c : Cluster) (e : Event) (n p : ℕ) (s j : NodeState) (v : View) (w :
   tell_leads =
       record {
         page = reported_on a n v.epoch;
-        run = run_gone c e n p v.epoch s j w a acts has.up order parties none late low below heard keeps r named;
+        run = run_gone c e n p v.epoch s j w a acts has.up order parties none late low below heard keeps r used named;
         related = report_is_kept c e n p (owner_of v (partition c.config p)) (report (partition c.config p) w.node.home) w (reported_on a n v.epoch) acts may gone;
         known = λ entered. entered;
       }
@@ -106,7 +107,7 @@ old_below c n q s old v x acts has own =
 pub tell_is_kept_law : TellIsKept
 tell_is_kept_law c e n p s old v w a blank acts may was has r =
     subst (λ (b : Bool). Leads c e n p (λ x b. IsEntered a → IsEntered b) a (send_report (partition c.config p) (owner_of v (partition c.config p)) (with_node w (left_if b (partition c.config p) w.node)))) (sym not_own)
-    (tell_leads c e n p s j v w a blank acts may.has may.order may.parties may.none may.home may.heard may.back may.reached may.new may.other eras.1 below late may.has.number keeps rel)
+    (tell_leads c e n p s j v w a blank acts may.has may.order may.parties may.none may.home may.heard may.back may.used may.reached may.new may.other eras.1 below late may.has.number keeps rel)
   where
     j : NodeState
     j = stood s.epoch s.view w.node.home.txs.born w.node

@@ -33,6 +33,7 @@ use Rattle.work_relation.specs.Landing.{land, Acts}
 use Rattle.work_relation.specs.Spending.{spent}
 use Rattle.work_relation.specs.Unseen.{SameStanding}
 use Rattle.work_relation.proofs.Framing.{entry_self, history_stays_law, stored_stays_law, copies_stay_law, tables_stay_law, links_stay_law, reached_landed, reached_same}
+use Rattle.work_relation.proofs.Naming.{names_used_law}
 use Rattle.work_relation.proofs.Nodes.{at_node, changed_node, kept_node, stands_as, unborn_same}
 use Rattle.turn_relation.specs.Getting.{MayTurn, IsTurned, TurningIsStep}
 use Rattle.work_relation.proofs.Spending.{shelf_is}
@@ -153,7 +154,7 @@ module _ (c : Cluster) (e : Event) (n p : ℕ) (w : Work) (a : Page) (r : rules.
   unfolding land
   turned is =
       record {
-        step = turns n r.version upto r.readers shelf may.not_past may.before (names_all is);
+        step = turns n r.version upto r.readers shelf may.not_past may.before (names_all is) (names_used_law c e n p w a r acts may.home may.right may.used is) may.used;
         related =
             record {
               history =

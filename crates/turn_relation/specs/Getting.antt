@@ -12,7 +12,7 @@ use Rattle.node_rules.specs.Shelf.{Right, right_on}
 use Rattle.node_rules.specs.Work.{Work}
 use Rattle.cluster_rules.specs.Clusters.{Cluster}
 use Rattle.home_laws.specs.Homes.{IsHome}
-use Rattle.page_protocol.specs.Authority.{spending}
+use Rattle.page_protocol.specs.Authority.{HaveUsed, spending}
 use Rattle.page_protocol.specs.Eras.{reporting}
 use Rattle.page_protocol.specs.State.{Page}
 use Rattle.page_protocol.specs.Steps.{Step}
@@ -37,13 +37,15 @@ NewTableIsRebuilt =
     (p n next : ℕ) (h : HomeState) (b : Page) → IsHome h → h.txs.node ≡ n → n < h.config.nodes → HasReported p n next h b
     → IsRebuilt b.era b.listed b.right b.reached b.home next (new_table (partition h.config p) n h) (entry_at (new_table (partition h.config p) n h) p)
 
--- A node that has the right of the page, which isn't its own in its view, and gets the partition with a later era.
+-- A node that has the right of the page, which isn't its own in its view, and gets the partition with a later era; each
+-- lock of the page there was used.
 pub record MayTurn (c : Cluster) (n p upto : ℕ) (w : Work) (a : Page) (r : Right) : Type 0 where
   pub home : IsHome w.node.home
   pub right : right_on w.node.home.shelf p ≡ Some r
   pub not_own : owned_before w.node.view (partition w.node.home.config p) (number_of w.node) ≡ false
   pub not_past : a.era ≤ a.reached n
   pub before : a.reached n < upto
+  pub used : HaveUsed a n
 
 -- the machine's turn, by which the node reports too; and the relation with the state before that report, where the
 -- readers' locks are registered

@@ -16,6 +16,7 @@ use Rattle.home_laws.specs.Homes.{IsHome}
 use Rattle.link_laws.specs.Coming.{speaks_of}
 use Rattle.link_laws.specs.EpochLaws.{IsInOrder}
 use Rattle.era_laws.specs.Eras.{era_in}
+use Rattle.page_protocol.specs.Authority.{HaveUsed}
 use Rattle.page_protocol.specs.Eras.{with_report}
 use Rattle.page_protocol.specs.State.{Page, Home, Fresh, Asking, Holding, HoldingAsks, Reading, ReadingAsks, Ended, Gone, Returning, pick, updn, version_of}
 use Rattle.page_protocol.specs.Steps.{Reached}
@@ -60,7 +61,7 @@ abbrev pub IsBack : Page → ℕ → Type 0
 IsBack a n = (upto : ℕ) (readers : List TxId) → a.right n ≡ Returning upto readers → upto ≤ suc (a.reached n)
 
 -- A node that is in the view after its own, where another node gets the partition; nothing that speaks of the page was
--- sent in the step yet.
+-- sent in the step yet, and each lock of the page there was used.
 pub record MayTell (c : Cluster) (n p : ℕ) (s : NodeState) (v : View) (w : Work) (a : Page) (blank : List ℕ) : Type 0 where
   pub has : HasNext c n s v w.node
   pub order : IsInOrder c
@@ -69,6 +70,7 @@ pub record MayTell (c : Cluster) (n p : ℕ) (s : NodeState) (v : View) (w : Wor
   pub home : IsHome w.node.home
   pub heard : IsHeard c p a
   pub back : IsBack a n
+  pub used : HaveUsed a n
   pub reached : Reached blank a
   pub new : since_of v (partition c.config p) ≡ v.epoch
   pub other : (owner_of v (partition c.config p) == n) ≡ false

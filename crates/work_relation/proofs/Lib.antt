@@ -14,6 +14,7 @@ pub mod Called
 pub mod Letting
 pub mod Sending
 pub mod Taking
+pub mod Naming
 pub mod Spending
 pub mod Revoking
 pub mod Granting

@@ -40,7 +40,7 @@ use Rattle.link_laws.specs.EpochLaws.{IsInOrder}
 use Rattle.link_laws.specs.Orders.{how_many}
 use Rattle.look_laws.specs.Grants.{IsSpent, IsRevoked}
 use Rattle.look_laws.proofs.Granting.{spending_is_seen_law, revoking_is_seen_law}
-use Rattle.page_protocol.specs.Authority.{spending}
+use Rattle.page_protocol.specs.Authority.{HaveUsed, spending}
 use Rattle.page_protocol.specs.State.{Shelf, Returning, Page}
 use Rattle.page_protocol.specs.Steps.{here, then}
 use Rattle.page_relation.specs.Messages.{SaysSo, is_answer}
@@ -238,19 +238,20 @@ module _ (c : Cluster) (e : Event) (n p from : ℕ) (s : NodeState) (m : Message
 
   -- the right may be spent, and the answer sent
   may_spend : (said : TakenSays c e n p a s from m) (r : rules.Right) → IsParty c from n m → m.body ≡ body.Revoke p → speaks_of c.config p m.body ≡ true
-      → right_on s.home.shelf p ≡ Some r → MaySpend c n p (taken_of c s) a r
-  may_spend said r party is speaks there =
+      → right_on s.home.shelf p ≡ Some r → HaveUsed a n → MaySpend c n p (taken_of c s) a r
+  may_spend said r party is speaks there used =
       record {
         home = (up_is_member_law c n s i h.up).1.sound.home;
         right = there;
         not_own = not_own said party is speaks;
+        used = used;
         reached = (let most = era_low said is speaks in let low = said.not_past in let at = said.reached speaks in omega (arith, most, low, at));
       }
 
   may_answer : (said : TakenSays c e n p a s from m) (r : rules.Right) → IsParty c from n m → m.body ≡ body.Revoke p → speaks_of c.config p m.body ≡ true
-      → right_on s.home.shelf p ≡ Some r → a.right n ≡ Shelf r.version → IsPageOf c p a
+      → right_on s.home.shelf p ≡ Some r → a.right n ≡ Shelf r.version → HaveUsed a n → IsPageOf c p a
       → MaySend c e n p (spent p (taken_of c s)) (spending a n (suc a.era) r.readers) from (body.Return (record { page = p; readers = r.readers }))
-  may_answer said r party is speaks there shelf related =
+  may_answer said r party is speaks there shelf used related =
       record {
         other = not_same;
         no_report = refl;
@@ -265,7 +266,7 @@ module _ (c : Cluster) (e : Event) (n p from : ℕ) (s : NodeState) (m : Message
       }
     where
       may : MaySpend c n p (taken_of c s) a r
-      may = may_spend said r party is speaks there
+      may = may_spend said r party is speaks there used
 
       seen : IsSpent kind.Registered p s.home (spent p (taken_of c s)).node.home
       seen = spending_is_seen_law kind.Registered p s.home may.home
@@ -279,16 +280,16 @@ module _ (c : Cluster) (e : Event) (n p from : ℕ) (s : NodeState) (m : Message
       not_past = subst (λ (k : ℕ). a.era ≤ k) (said.reached speaks) said.not_past
 
   -- the page's own revocation
-  own_revoked : (said : TakenSays c e n p a s from m) (r : rules.Right) → IsParty c from n m → m.body ≡ body.Revoke p → right_on s.home.shelf p ≡ Some r → IsPageOf c p a → IsEntered a
+  own_revoked : (said : TakenSays c e n p a s from m) (r : rules.Right) → IsParty c from n m → m.body ≡ body.Revoke p → right_on s.home.shelf p ≡ Some r → HaveUsed a n → IsPageOf c p a → IsEntered a
       → step c e ≡ land c e n (answered from p r (taken_of c s)) → Follows p IsEntered a (step c e)
-  own_revoked said r party is there related entered ended =
+  own_revoked said r party is there used related entered ended =
       record {
         page = spending a n (suc a.era) r.readers;
         run = then here spends.step;
         related =
             subst (λ (d : Cluster). IsPageOf d p (spending a n (suc a.era) r.readers)) (sym ended)
             (send_is_kept_law c e n p from (body.Return (record { page = p; readers = r.readers })) (spent p (taken_of c s)) (spending a n (suc a.era) r.readers) acts
-            (may_answer said r party is speaks there shelf related) spends.related);
+            (may_answer said r party is speaks there shelf used related) spends.related);
         known = spending_entered a n (suc a.era) r.readers entered;
       }
     where
@@ -296,7 +297,7 @@ module _ (c : Cluster) (e : Event) (n p from : ℕ) (s : NodeState) (m : Message
       speaks = ap (speaks_of c.config p) is ∙ own_page p
 
       spends : IsSpending c e n p (taken_of c s) a r
-      spends = spending_is_step_law c e n p (taken_of c s) a r acts (may_spend said r party is speaks there) said.related
+      spends = spending_is_step_law c e n p (taken_of c s) a r acts (may_spend said r party is speaks there used) said.related
 
       shelf : a.right n ≡ Shelf r.version
       shelf = shelf_is c e n p (taken_of c s) a r acts there said.related
@@ -318,7 +319,7 @@ module _ (c : Cluster) (e : Event) (n p from : ℕ) (s : NodeState) (m : Message
       (sends_elsewhere_law c e n p from (body.Return (record { page = page; readers = r.readers })) (spent page (taken_of c s)) other)
 
 pub revoke_is_kept_law : RevokeIsKept
-revoke_is_kept_law c e n p page from s m a i order party h is judged entered related = by (right_on s.home.shelf page) refl
+revoke_is_kept_law c e n p page from s m a i order party h is judged used entered related = by (right_on s.home.shelf page) refl
   where
     said : TakenSays c e n p a s from m
     said = taken_is_said_law c e n p s from m a i h judged related
@@ -334,7 +335,7 @@ revoke_is_kept_law c e n p page from s m a i order party h is judged entered rel
     own : (r : rules.Right) → right_on s.home.shelf page ≡ Some r → (b : Bool) → (page == p) ≡ b → Follows p IsEntered a (step c e)
     own r right true same =
         let at : page ≡ p = eqb-true page p same in
-        own_revoked c e n p from s m a i order h said r party (is ∙ ap body.Revoke at) (subst (λ (k : ℕ). right_on s.home.shelf k ≡ Some r) at right) related entered
+        own_revoked c e n p from s m a i order h said r party (is ∙ ap body.Revoke at) (subst (λ (k : ℕ). right_on s.home.shelf k ≡ Some r) at right) used related entered
         (there r right ∙ ap (λ (k : ℕ). land c e n (answered from k r (taken_of c s))) at)
     own r right false other = same_page c e n p from s m a i order h said (answered from page r (taken_of c s)) (other_revoked c e n p from s m a i order h page r other) entered (there r right)
 

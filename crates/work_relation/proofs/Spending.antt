@@ -47,6 +47,7 @@ use Rattle.work_relation.specs.Landing.{land, Acts}
 use Rattle.work_relation.specs.Spending.{spent, SpendsElsewhere, MaySpend, IsSpending, SpendingIsStep}
 use Rattle.work_relation.specs.Unseen.{SameStanding}
 use Rattle.work_relation.proofs.Framing.{entry_self, history_stays_law, stored_stays_law, copies_stay_law, tables_stay_law, links_stay_law, reached_landed, reached_same}
+use Rattle.work_relation.proofs.Naming.{names_used_law}
 use Rattle.work_relation.proofs.Nodes.{at_node, changed_node, kept_node, stands_as, unborn_same}
 use Rattle.work_relation.proofs.Quiet.{homes_elsewhere_law}
 
@@ -496,7 +497,7 @@ module _ (c : Cluster) (e : Event) (n p : ℕ) (w : Work) (a : Page) (r : rules.
   unfolding land
   spends is =
       record {
-        step = revokes n r.version r.readers shelf may.reached (names_all is);
+        step = revokes n r.version r.readers shelf may.reached (names_all is) (names_used_law c e n p w a r acts may.home may.right may.used is);
         related =
             record {
               history =

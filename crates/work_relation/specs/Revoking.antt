@@ -15,6 +15,7 @@ use Rattle.cluster_laws.specs.Sound.{IsCluster}
 use Rattle.era_laws.specs.Eras.{era_at}
 use Rattle.link_laws.specs.Coming.{coming}
 use Rattle.link_laws.specs.EpochLaws.{IsInOrder}
+use Rattle.page_protocol.specs.Authority.{HaveUsed}
 use Rattle.page_protocol.specs.State.{Page}
 use Rattle.page_relation.specs.Relation.{IsPageOf}
 use Rattle.page_relation.specs.Together.{IsParty}
@@ -27,11 +28,11 @@ BackIsNotEarlier =
     (c : Cluster) (p a b : ℕ) (m : Message) (rest : List Message) → IsCluster c → IsInOrder c → link_at c.links a b ≡ m ∷ rest
     → AllByRecursion (λ (k : Message). era_at c (partition c.config p) m.epoch ≤ era_at c (partition c.config p) k.epoch) (coming c p b a)
 
--- A revocation keeps the relation: of its page by the machine's revocation where the node has the right, and else with
--- the same state.
+-- A revocation keeps the relation: of its page by the machine's revocation where the node has the right, each of whose
+-- locks of the page was used, and else with the same state.
 abbrev pub RevokeIsKept : Type 0
 RevokeIsKept =
     (c : Cluster) (e : Event) (n p page from : ℕ) (s : NodeState) (m : Message) (a : Page) → IsCluster c → IsInOrder c → IsParty c from n m
     → IsHanded c e n s (Deliver from m) → m.body ≡ body.Revoke page
-    → judge_in s.view (number_of s) from m.epoch (partition_of s.home.config m.body) ≡ verdict.Taken → IsEntered a → IsPageOf c p a
+    → judge_in s.view (number_of s) from m.epoch (partition_of s.home.config m.body) ≡ verdict.Taken → HaveUsed a n → IsEntered a → IsPageOf c p a
     → Follows p IsEntered a (step c e)

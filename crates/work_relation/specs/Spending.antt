@@ -10,7 +10,7 @@ use Rattle.node_rules.specs.Shelf.{Right, right_on}
 use Rattle.node_rules.specs.Work.{Work, with_home}
 use Rattle.cluster_rules.specs.Clusters.{Cluster}
 use Rattle.home_laws.specs.Homes.{IsHome}
-use Rattle.page_protocol.specs.Authority.{spending}
+use Rattle.page_protocol.specs.Authority.{HaveUsed, spending}
 use Rattle.page_protocol.specs.State.{Page}
 use Rattle.page_protocol.specs.Steps.{Step}
 use Rattle.work_relation.specs.Keeping.{IsWorkOf}
@@ -26,12 +26,13 @@ abbrev pub SpendsElsewhere : Type 0
 SpendsElsewhere =
     (c : Cluster) (e : Event) (n p q : ℕ) (w : Work) → IsHome w.node.home → (q == p) ≡ false → IsUnseen c e n p w (spent q w)
 
--- a node that has the right of the page, which isn't its own, and hasn't left the era that serves
+-- a node that has the right of the page, which isn't its own, and hasn't left the era that serves; each lock there was used
 pub record MaySpend (c : Cluster) (n p : ℕ) (w : Work) (a : Page) (r : Right) : Type 0 where
   pub home : IsHome w.node.home
   pub right : right_on w.node.home.shelf p ≡ Some r
   pub not_own : owned_before w.node.view (partition w.node.home.config p) (number_of w.node) ≡ false
   pub reached : a.reached n ≡ a.era
+  pub used : HaveUsed a n
 
 -- the machine's revocation, and the relation with the state after it
 pub record IsSpending (c : Cluster) (e : Event) (n p : ℕ) (w : Work) (a : Page) (r : Right) : Type 0 where

@@ -25,7 +25,7 @@ pub fn taken_is_said()
     ensures { TakenIsSaid }
 {}
 
-/// A right that is spent at its node by a revocation is the machine's revocation.
+/// A right that is spent at its node by a revocation is the machine's revocation, where each lock of the node was used.
 pub fn spending_is_step()
     ensures { SpendingIsStep }
 {}
