@@ -32,6 +32,7 @@ use Rattle.settle_relation.proofs.Requesting.{midway, request_is_kept_law}
 use Rattle.settle_relation.proofs.Returning.{return_is_kept_law}
 use Rattle.settle_relation.proofs.Turns.{settle_keeps}
 use Rattle.release_relation.proofs.Releasing.{release_is_kept_law}
+use Rattle.used_locks.proofs.Stands.{used_is_seen_law}
 use Rattle.related_runs.specs.RunLaws.{IsOfRun}
 use Rattle.acted_events.specs.Acted.{IsWholeStep, ActKeeps}
 use Rattle.acted_events.proofs.Simple.{untaken_acts}
@@ -79,7 +80,7 @@ module _ (blank : List ℕ) (c : Cluster) (e : Event) (n from : ℕ) (s : NodeSt
 
     revoke_follows : (q : ℕ) → m.body ≡ body.Revoke q → Follows p IsEntered a (step c e)
     revoke_follows q at =
-        revoke_is_kept_law c e n p q from s m a is.related.cluster is.related.order (party blank c e n from s m is h) h at judged (is.between.entered p low) (is.related.pages.related p low)
+        revoke_is_kept_law c e n p q from s m a is.related.cluster is.related.order (party blank c e n from s m is h) h at judged (λ t own. used_is_seen_law c p a (is.related.pages.related p low) is.used t) (is.between.entered p low) (is.related.pages.related p low)
 
     release_follows : (r : Release) → m.body ≡ body.Release r → Follows p IsEntered a (step c e)
     release_follows r at =

@@ -32,6 +32,7 @@ use Rattle.work_relation.proofs.Beginning.{begin_is_kept_law}
 use Rattle.work_relation.proofs.Ended.{end_is_landed_law}
 use Rattle.work_relation.proofs.Revoking.{revoke_is_kept_law}
 use Rattle.work_relation.proofs.Simple.{evict_is_kept_law, flush_is_kept_law, cut_is_kept_law, untaken_is_kept_law}
+use Rattle.used_locks.proofs.Stands.{used_is_seen_law}
 use Rattle.related_runs.specs.RunLaws.{IsOfRun, LeavesPages}
 use Rattle.related_runs.proofs.AllKinds.{kinds_are_all_law}
 use Rattle.between_events.specs.Events.{IsMade, Leads, ActsByEvent, EventsAreAll, EventsKeepPages}
@@ -97,7 +98,10 @@ module _ (blank : List ℕ) (c : Cluster) (k : ActsByEvent blank c) (is : IsOfRu
     taken from m i judged (body.Request r) same = k.requests from m r same e n s w is i judged
     taken from m i judged (body.Grant g) same = k.grants from m g same e n s w is i judged
     taken from m i judged (body.Release r) same = k.releases from m r same e n s w is i judged
-    taken from m i judged (body.Revoke page) same = k.revocations from m page same e n s w is i judged
+    taken from m i judged (body.Revoke page) same = λ p low.
+        revoke_is_kept_law c e n p page from s m (is.related.pages.page p) is.related.cluster is.related.order
+        (head_all (IsParty c from n) (link_at c.links from n) m (is.related.parties from n) (delivered c e n s from m i.handed))
+        i.handed same judged (λ t own. used_is_seen_law c p (is.related.pages.page p) (is.related.pages.related p low) is.used t) (is.between.entered p low) (is.related.pages.related p low)
     taken from m i judged (body.Return r) same = k.returns from m r same e n s w is i judged
     taken from m i judged (body.Report r) same = k.reports from m r same e n s w is i judged
 

@@ -52,7 +52,7 @@ StopsIn blank c ev =
     (e : Event) (n : ℕ) (s : NodeState) (p : Plan) (l : Left) → IsOfRun blank c → IsHanded c e n s ev → nodestep s ev c.disk ≡ Goes p
     → left_of n c.disk p.calls (stop_at c n) ≡ Some l → HasPages blank (halted e n l c)
 
--- What is left to show of a cluster: accesses, ends, installs, and messages that are taken; and stops in installs and reports.
+-- What is left to show of a cluster: accesses, ends, installs, and messages that are taken, but for revocations; and stops in installs and reports.
 pub record ActsByEvent (blank : List ℕ) (c : Cluster) : Type 0 where
   pub reads : (t : TxId) (p : ℕ) → ActsOn blank c (Read t p)
   pub writes : (t : TxId) (p place : ℕ) (bytes : List ℕ) → ActsOn blank c (Write t p place bytes)
@@ -62,7 +62,6 @@ pub record ActsByEvent (blank : List ℕ) (c : Cluster) : Type 0 where
   pub requests : (from : ℕ) (m : Message) (r : Request) → m.body ≡ body.Request r → TakesIn blank c from m
   pub grants : (from : ℕ) (m : Message) (g : Grant) → m.body ≡ body.Grant g → TakesIn blank c from m
   pub releases : (from : ℕ) (m : Message) (r : Release) → m.body ≡ body.Release r → TakesIn blank c from m
-  pub revocations : (from : ℕ) (m : Message) (page : ℕ) → m.body ≡ body.Revoke page → TakesIn blank c from m
   pub returns : (from : ℕ) (m : Message) (r : ReturnRight) → m.body ≡ body.Return r → TakesIn blank c from m
   pub reports : (from : ℕ) (m : Message) (r : Report) → m.body ≡ body.Report r → TakesIn blank c from m
   pub stopped_installs : (v : View) → StopsIn blank c (Install v)

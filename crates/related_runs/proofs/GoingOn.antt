@@ -18,6 +18,7 @@ use Rattle.page_protocol.specs.State.{Home, Fresh, Holding}
 use Rattle.page_protocol.specs.Steps.{here as no_step}
 use Rattle.page_relation.specs.Laws.{blank, opening_page}
 use Rattle.page_relation.proofs.Opening.{opening_is_related_law, opening_is_whole_law}
+use Rattle.used_locks.proofs.Stepped.{opening_has_used_law, steps_have_used_law}
 use Rattle.related_runs.specs.RunLaws.{IsOfRun, StepsKeepPages, StepsGoOn, RunsAreRelated, IsTrue, RunsAreTrue, RunsAreSafe}
 use Rattle.related_runs.proofs.Asked.{steps_have_asked_law, opening_has_serials_law, steps_have_serials_law}
 use Rattle.related_runs.proofs.FreshSteps.{related_stays_fresh_law}
@@ -44,6 +45,7 @@ steps_go_on_law blank c e left is =
       serials = steps_have_serials_law c e r.cluster is.serials;
       living = talks.0;
       within = steps_have_within_law c e r.cluster is.within;
+      used = steps_have_used_law c e r.cluster r.asked is.used;
     }
 
 opening_is_of_run : (c : Sizes) → InLimits c → IsOfRun (blank c) (opening c)
@@ -69,6 +71,7 @@ opening_is_of_run c limits =
       serials = opening_has_serials_law c;
       living = opening_has_living_law c;
       within = opening_has_within_law c;
+      used = opening_has_used_law c;
     }
   where
     clean : (let b : Bool = false in b) ≡ true → ⊥

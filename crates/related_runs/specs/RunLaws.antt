@@ -18,6 +18,7 @@ use Rattle.page_protocol.specs.State.{Page, Holding}
 use Rattle.page_relation.specs.Laws.{blank}
 use Rattle.page_relation.specs.Together.{HasPages, IsRelated}
 use Rattle.work_relation.specs.Events.{IsEntered}
+use Rattle.used_locks.specs.Used.{HaveUsedLocks}
 use Rattle.related_runs.specs.Parties.{HaveLiving}
 use Rattle.related_runs.specs.Parts.{HaveSerials, HaveWithin}
 
@@ -38,6 +39,7 @@ pub record IsOfRun (blank : List ℕ) (c : Cluster) : Type 0 where
   pub serials : HaveSerials c
   pub living : HaveLiving c
   pub within : HaveWithin c
+  pub used : HaveUsedLocks c
 
 -- each page is related to a state that its machine reaches, and that may stand between two events
 pub record LeavesPages (blank : List ℕ) (c : Cluster) : Type 0 where

@@ -1,0 +1,9 @@
+pub mod Entries
+pub mod Settling
+pub mod Keeping
+pub mod Redoing
+pub mod Ending
+pub mod Events
+pub mod Stepping
+pub mod Carried
+pub mod Standing

@@ -1,0 +1,12 @@
+pub mod Accesses
+pub mod Marks
+pub mod Frames
+pub mod Granting
+pub mod Owning
+pub mod Acting
+pub mod Starting
+pub mod Stepping
+pub mod Installing
+pub mod Leaving
+pub mod Stepped
+pub mod Stands

@@ -1,0 +1,18 @@
+//! Laws of the machine's states that are related to clusters whose locks were used.
+
+ghost use Rattle.used_locks.specs.Seen.{ReadersAreUsed, UsedIsSeen, WorksAreUsed};
+
+/// In a state of the machine of one page that is related to such a cluster, who has a lock has accessed the page.
+pub fn used_is_seen()
+    ensures { UsedIsSeen }
+{}
+
+/// So it is within a step that begins there, while no transaction has come to hold the page.
+pub fn works_are_used()
+    ensures { WorksAreUsed }
+{}
+
+/// And each reader under the right that the node has then has accessed the page.
+pub fn readers_are_used()
+    ensures { ReadersAreUsed }
+{}
