@@ -1,0 +1,12 @@
+pub mod Burials
+pub mod Bounds
+pub mod Runs
+pub mod Lowered
+pub mod Living
+pub mod Naming
+pub mod Closed
+pub mod Missing
+pub mod Ahead
+pub mod Wholes
+pub mod Reports
+pub mod KnownWhole

@@ -1,0 +1,4 @@
+pub mod Burying
+pub mod Running
+pub mod Past
+pub mod Whole

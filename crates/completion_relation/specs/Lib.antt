@@ -1,0 +1,4 @@
+pub mod Completed
+pub mod Reported
+pub mod Agreeing
+pub mod Looks
