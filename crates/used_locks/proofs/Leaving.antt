@@ -20,7 +20,7 @@ lost_uses ss old x n all m =
     by_lost ss n m (λ b o. IfSome o (NodeUses (old ++ x ∷ []))) (λ e. tt) (λ e. uses_stay old x (slice_index_or ss m None) (all m))
 
 -- a node without transactions
-none_held : (own : Bool) (k p : ℕ) → lock_on (pages_of_open (pick own (with_serial [] k) None)) p ≡ None
+pub none_held : (own : Bool) (k p : ℕ) → lock_on (pages_of_open (pick own (with_serial [] k) None)) p ≡ None
 unfolding with_serial lock_on
 none_held true k p = refl
 none_held false k p = refl

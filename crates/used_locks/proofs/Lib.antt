@@ -10,3 +10,4 @@ pub mod Installing
 pub mod Leaving
 pub mod Stepped
 pub mod Stands
+pub mod Holding

@@ -1,2 +1,3 @@
 pub mod Used
+pub mod Holders
 pub mod Seen

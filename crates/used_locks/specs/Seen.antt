@@ -1,10 +1,9 @@
 -- Locks that were used, as the machine of one page has them: between two events, and within a step.
-use Rattle.std.specs.Prelude.{◌≡◌, ◌≢◌, ℕ, true, List, [], Some, None}
+use Rattle.std.specs.Prelude.{◌≡◌, ◌≢◌, ℕ, true, List, [], Some}
 use Rattle.pcl_base.specs.declared.event.Event.{Event}
 use Rattle.pcl_base.specs.declared.tx.TxId.{TxId}
 use Rattle.home_laws.specs.Homes.{IsHome}
 use Rattle.node_rules.specs.NodeState.{NodeState}
-use Rattle.node_rules.specs.OpenTxs.{OpenTxs, held_by}
 use Rattle.node_rules.specs.Shelf as shelf
 use Rattle.node_rules.specs.Shelf.{right_on}
 use Rattle.node_rules.specs.Work.{Work}
@@ -14,15 +13,12 @@ use Rattle.page_protocol.specs.State.{lock_of, has, Page}
 use Rattle.page_relation.specs.Relation.{IsPageOf}
 use Rattle.work_relation.specs.Keeping.{IsWorkOf}
 use Rattle.work_relation.specs.Landing.{Acts}
+use Rattle.used_locks.specs.Holders.{HoldsNoMore}
 use Rattle.used_locks.specs.Used.{HaveUsedLocks}
 
 -- it is so in a state of the machine that is related to such a cluster
 abbrev pub UsedIsSeen : Type 0
 UsedIsSeen = (c : Cluster) (p : ℕ) (a : Page) → IsPageOf c p a → HaveUsedLocks c → (t : TxId) → LockUsed (lock_of (a.home t)) (a.script t)
-
--- no transaction holds page p that didn't hold it before
-abbrev pub HoldsNoMore : ℕ → OpenTxs → OpenTxs → Type 0
-HoldsNoMore p before after = (t : TxId) → held_by after t p ≢ None → held_by before t p ≢ None
 
 -- A work of a step that begins in such a cluster, where no transaction has come to hold the page since then.
 pub record IsEarly (c : Cluster) (e : Event) (n p : ℕ) (s : NodeState) (w : Work) (a : Page) : Type 0 where

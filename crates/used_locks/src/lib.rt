@@ -10,5 +10,5 @@
 mod seen;
 mod used;
 
-pub use seen::{readers_are_used, used_is_seen, works_are_used};
+pub use seen::{nobody_comes_to_hold, readers_are_used, used_is_seen, works_are_used};
 pub use used::{opening_has_used, steps_have_used};

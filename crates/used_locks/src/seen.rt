@@ -1,5 +1,6 @@
 //! Laws of the machine's states that are related to clusters whose locks were used.
 
+ghost use Rattle.used_locks.specs.Holders.{NobodyComesToHold};
 ghost use Rattle.used_locks.specs.Seen.{ReadersAreUsed, UsedIsSeen, WorksAreUsed};
 
 /// In a state of the machine of one page that is related to such a cluster, who has a lock has accessed the page.
@@ -15,4 +16,9 @@ pub fn works_are_used()
 /// And each reader under the right that the node has then has accessed the page.
 pub fn readers_are_used()
     ensures { ReadersAreUsed }
+{}
+
+/// Nobody comes to hold a page where each has the same of it, by what an install does with locks, or by a right that is spent.
+pub fn nobody_comes_to_hold()
+    ensures { NobodyComesToHold }
 {}
