@@ -1,5 +1,5 @@
 -- What of the relation stays where eras lose their dead.
-use Rattle.std.proofs.Common.{◌≡◌, refl, ap, sym, subst, ◌∙◌, ℕ, ◌<◌, ◌≤◌, ◌&&◌, leb, nat_lt, Bool, true, false, List, [], ◌∷◌, Option, Some, None, arith}
+use Rattle.std.proofs.Common.{◌≡◌, ◌⊎◌, inl, inr, refl, ap, sym, subst, ◌∙◌, ℕ, ◌<◌, ◌≤◌, ◌&&◌, leb, nat_lt, Bool, true, false, List, [], ◌∷◌, Option, Some, None, arith}
 use Rattle.std.specs.List.{AllByRecursion}
 use Rattle.std.proofs.lemmas.Bool.Decides.{nat_tests}
 use Rattle.pcl_base.specs.declared.lock.Held.{Held}
@@ -22,7 +22,7 @@ use Rattle.cluster_rules.specs.Clusters.{Cluster, node_at, version_of_change}
 use Rattle.era_laws.specs.Eras.{era_at, era_in}
 use Rattle.link_laws.specs.Coming.{coming}
 use Rattle.page_protocol.specs.Eras.{buried}
-use Rattle.page_protocol.specs.State.{pick, Home, Fresh, Asking, Holding, HoldingAsks, Reading, ReadingAsks, Ended, Gone, Page, IsFresh, current}
+use Rattle.page_protocol.specs.State.{pick, Home, Fresh, Asking, Holding, HoldingAsks, Reading, ReadingAsks, Ended, Gone, Page, IsClosed, IsFresh, current}
 use Rattle.page_relation.specs.Homes.{Stands, StandsIn, is_unborn, wait_on, ImageIn, image_of, stand_of, held_stand, shared_stand}
 use Rattle.page_relation.specs.Messages.{HasAsked, IsTold, SaysSo, WaitIs, mode_listed}
 use Rattle.page_relation.specs.Relation.{HomesAre, LinksAre, MessageIs, TablesAre}
@@ -134,6 +134,30 @@ either_home P false h k x y = x
 exclusive_either : (d : Bool) (e : ℕ) (h : Home) → pick d (buried e h) h ≡ Holding Exclusive → h ≡ Holding Exclusive
 exclusive_either true e h is = exclusive_back e h is
 exclusive_either false e h is = is
+
+-- who was closed is so
+pub buried_closed : (d : Bool) (low : ℕ) (h : Home) → IsClosed h → IsClosed (pick d (buried low h) h)
+buried_closed true low Fresh shut = tt
+buried_closed true low (Asking m v) shut = shut
+buried_closed true low (Holding m) shut = shut
+buried_closed true low HoldingAsks shut = shut
+buried_closed true low Reading shut = shut
+buried_closed true low ReadingAsks shut = shut
+buried_closed true low (Ended c f) shut = by (leb low f)
+  where
+    by : (b : Bool) → IsClosed (pick b Gone (Ended c f))
+    by true = tt
+    by false = tt
+buried_closed true low Gone shut = tt
+buried_closed false low h shut = shut
+
+-- nothing is listed of one who is buried
+pub buried_none : (d g : Bool) (x : Option Mode) → (x ≡ None) ⊎ ((d ≡ true) × (g ≡ true)) → pick (d && g) None x ≡ None
+buried_none true true x is = refl
+buried_none true false x (inl none) = none
+buried_none true false x (inr both) = let bad = both.1 in absurd (cc)
+buried_none false g x (inl none) = none
+buried_none false g x (inr both) = let bad = both.0 in absurd (cc)
 
 -- what is listed then, by tests
 early : (d g : Bool) (x : Option Mode) → g ≡ false → pick (d && g) None x ≡ x

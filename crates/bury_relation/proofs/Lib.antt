@@ -10,3 +10,8 @@ pub mod Ahead
 pub mod Wholes
 pub mod Reports
 pub mod KnownWhole
+pub mod Keeping
+pub mod KeptServed
+pub mod KeptEarly
+pub mod Carried
+pub mod KeptWorks

@@ -1,5 +1,5 @@
 -- A table without a missing report has all of its era, once who is past is buried.
-use Rattle.std.proofs.Common.{◌≡◌, ◌⊎◌, inl, inr, refl, ap, sym, subst, ◌∙◌, ℕ, ◌<◌, ◌≤◌, ◌==◌, ◌&&◌, leb, ltb, not, Bool, true, false, Option, Some, None, arith, eqb-true}
+use Rattle.std.proofs.Common.{◌≡◌, ◌⊎◌, inl, inr, refl, ap, sym, subst, ◌∙◌, ℕ, ◌<◌, ◌≤◌, ◌==◌, leb, ltb, not, Bool, true, false, Option, Some, None, arith, eqb-true}
 use Rattle.std.proofs.lemmas.Bool.Decides.{nat_tests}
 use Rattle.pcl_base.specs.declared.event.Event.{Event}
 use Rattle.pcl_base.specs.declared.tx.Mode.{Mode}
@@ -13,10 +13,8 @@ use Rattle.era_laws.specs.Eras.{era_in, life_of}
 use Rattle.era_laws.proofs.Ages.{era_is, eras_are_reached_law}
 use Rattle.era_laws.proofs.Lives.{up_nodes_live_law}
 use Rattle.kept_relation.proofs.Purged.{own_table}
-use Rattle.page_protocol.specs.Eras.{buried}
 use Rattle.page_protocol.specs.Laws.{LaterAreUsed, NamedAreUsed}
-use Rattle.page_protocol.specs.State as machine
-use Rattle.page_protocol.specs.State.{pick, has, Right, NoRight, Flying, Shelf, Returning, Dead, Page, IsClosed}
+use Rattle.page_protocol.specs.State.{pick, Right, NoRight, Flying, Shelf, Returning, Dead, Page, IsClosed}
 use Rattle.page_relation.specs.Looks.{shelf_in, shelf_of}
 use Rattle.page_relation.specs.Messages.{CountsFor}
 use Rattle.page_relation.specs.Relation.{on_shelf}
@@ -29,20 +27,13 @@ use Rattle.bury_relation.specs.Running.{AreOver}
 use Rattle.bury_relation.specs.Past.{past_in}
 use Rattle.bury_relation.specs.Whole.{IsKnown}
 use Rattle.bury_relation.proofs.Ahead.{born_of_listed, born_of_script}
+use Rattle.bury_relation.proofs.Burials.{buried_closed, buried_none}
 use Rattle.bury_relation.proofs.Closed.{past_are_closed_law}
 use Rattle.bury_relation.proofs.Living.{lives_in}
 use Rattle.bury_relation.proofs.Missing.{unmarked_is_new, unmarked_is_past}
 
--- what is listed of one that is buried
-buried_none : (d g : Bool) (x : Option Mode) → (x ≡ None) ⊎ ((d ≡ true) × (g ≡ true)) → pick (d && g) None x ≡ None
-buried_none true true x is = refl
-buried_none true false x (inl none) = none
-buried_none true false x (inr both) = let bad = both.1 in absurd (cc)
-buried_none false g x (inl none) = none
-buried_none false g x (inr both) = let bad = both.0 in absurd (cc)
-
 -- a right that counts for an era although what was given back counts for none from it on
-lowered_out : (era : ℕ) (r : Right) → CountsFor era (lower era r) → (v : ℕ) × (r ≡ Shelf v)
+pub lowered_out : (era : ℕ) (r : Right) → CountsFor era (lower era r) → (v : ℕ) × (r ≡ Shelf v)
 lowered_out era NoRight counts = absurd counts
 lowered_out era (Flying g) counts = absurd counts
 lowered_out era (Shelf v) counts = (v, refl)
@@ -112,22 +103,7 @@ module _ (c : Cluster) (e : Event) (n p : ℕ) (v : View) (t : LockTable) (w : W
       from_then f after = grind (arith, nat_tests, after)
 
       closed_still : (u : TxId) → past_in v u ≡ true → IsClosed (b.home u)
-      closed_still u is_past = of (dead u) (a.home u) (past_are_closed_law c e n p v w a u acts known.owner is is_past)
-        where
-          gone_or : (x : Bool) (k : Option ℕ) (f : ℕ) → IsClosed (pick x machine.Gone (machine.Ended k f))
-          gone_or true k f = tt
-          gone_or false k f = tt
-
-          of : (x : Bool) (h : machine.Home) → IsClosed h → IsClosed (pick x (buried era h) h)
-          of true machine.Fresh shut = tt
-          of true (machine.Asking k j) shut = shut
-          of true (machine.Holding k) shut = shut
-          of true machine.HoldingAsks shut = shut
-          of true machine.Reading shut = shut
-          of true machine.ReadingAsks shut = shut
-          of true (machine.Ended k f) shut = gone_or (leb era f) k f
-          of true machine.Gone shut = tt
-          of false h shut = shut
+      closed_still u is_past = buried_closed (dead u) era (a.home u) (past_are_closed_law c e n p v w a u acts known.owner is is_past)
 
   -- no right of it is on a shelf
   no_shelf : (m x : ℕ) → marked t m ≡ false → a.right m ≡ Shelf x → ⊥

@@ -6,11 +6,13 @@
 //! one page, and what a table has of its era then. Each law is the clause of a function that does nothing.
 
 mod burying;
+mod kept;
 mod past;
 mod running;
 mod whole;
 
 pub use burying::{burying_is_related, lowering_is_related};
+pub use kept::{kept_is_clear, kept_is_clear_early, purged_are_living, purged_is_known};
 pub use past::{past_are_closed, past_may_be_buried};
 pub use running::{burial_is_run, lowering_is_run, rights_are_bounded};
 pub use whole::{known_is_whole, nobody_is_ahead};

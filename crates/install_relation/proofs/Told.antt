@@ -1,0 +1,128 @@
+-- The new owner of a partition is told what the node has.
+use Rattle.std.proofs.Common.{◌≡◌, refl, ap, sym, subst, ◌∙◌, ℕ, ◌+◌, ◌≤◌, ◌<◌, ◌==◌, Bool, false, List, Option, Some, arith}
+use Rattle.std.specs.List.{AllByRecursion}
+use Rattle.pcl_base.specs.Limits.{Sizes}
+use Rattle.pcl_base.specs.declared.event.Event.{Event}
+use Rattle.pcl_base.specs.declared.message.Message.{Message}
+use Rattle.pcl_base.specs.declared.tx.TxId.{TxId}
+use Rattle.run_rules.specs.Views.{View, since_of, owner_of}
+use Rattle.node_rules.specs.InstallRule.{owned_before, left_if, send_report}
+use Rattle.node_rules.specs.NodeState.{NodeState, partition, number_of}
+use Rattle.node_rules.specs.OpenTxs.{held_by}
+use Rattle.node_rules.specs.Reports.{report}
+use Rattle.node_rules.specs.Work.{Work, with_node}
+use Rattle.node_laws.proofs.Lists.{all_weaker}
+use Rattle.cluster_rules.specs.Clusters.{Cluster, node_at}
+use Rattle.cluster_rules.specs.Links.{link_at}
+use Rattle.cluster_laws.proofs.Steps.{up_is_member_law}
+use Rattle.era_laws.specs.Eras.{era_at}
+use Rattle.era_laws.proofs.Ages.{era_is}
+use Rattle.era_laws.proofs.Lives.{stands}
+use Rattle.home_laws.specs.Homes.{IsHome}
+use Rattle.link_laws.specs.Coming.{coming}
+use Rattle.link_laws.specs.EpochLaws.{IsInOrder}
+use Rattle.page_protocol.proofs.Keeps.{reached_holds}
+use Rattle.page_protocol.specs.State.{Page}
+use Rattle.page_protocol.specs.Steps.{Reached, Run, here, then, reports}
+use Rattle.page_relation.specs.Homes.{KindFits, KindIn}
+use Rattle.page_relation.specs.Messages.{ReportIs}
+use Rattle.page_relation.specs.Together.{IsParty}
+use Rattle.work_relation.specs.Events.{IsEntered}
+use Rattle.work_relation.specs.Keeping.{IsWorkOf, Leads}
+use Rattle.work_relation.specs.Landing.{land, Acts}
+use Rattle.work_relation.proofs.Nodes.{at_node}
+use Rattle.turn_relation.specs.Standing.{HasNext, stood}
+use Rattle.turn_relation.specs.Telling.{reported_on}
+use Rattle.turn_relation.proofs.Gone.{KeepsPage}
+use Rattle.turn_relation.proofs.Knowing.{OnWay, NoneSent, known_coming}
+use Rattle.turn_relation.proofs.Reporting.{MayReport, report_is_kept}
+use Rattle.turn_relation.proofs.Said.{report_says}
+use Rattle.turn_relation.proofs.Staying.{keeps_unowned}
+use Rattle.turn_relation.proofs.Told.{reached_old, old_below}
+use Rattle.page_protocol.proofs.GivenBack.{in_time}
+use Rattle.page_protocol.specs.Eras.{reporting}
+use Rattle.install_relation.specs.Knowing.{IsHeardAt}
+use Rattle.install_relation.specs.Telling.{TellsOn}
+use Rattle.install_relation.proofs.Gone.{related_gone, run_gone}
+
+module _ (c : Cluster) (e : Event) (n p : ℕ) (s j : NodeState) (v : View) (w : Work) (a : Page) (blank : List ℕ) (acts : Acts c n) (has : HasNext c n s v w.node) (order : IsInOrder c) (parties : (x y : ℕ) → AllByRecursion (IsParty c x y) (link_at c.links x y)) (none : NoneSent c p w.sends) (home : IsHome w.node.home) (heard : IsHeardAt c n p (a.reached n)) (reached : Reached blank a) (new : since_of v (partition c.config p) ≡ v.epoch) (other : (owner_of v (partition c.config p) == n) ≡ false) (low : a.era ≤ a.reached n) (below : a.reached n < v.epoch) (late : s.epoch < v.epoch) (named : j.home.txs.node ≡ n) (keeps : KeepsPage c p v.epoch a.era j w.node) (r : IsWorkOf c e n p (with_node w j) a) (z : Page) (first : Run z (reporting a n v.epoch)) where
+  gone : IsWorkOf c e n p w (reported_on a n v.epoch)
+  gone = related_gone c e n p v.epoch s j w a acts has.up order parties none late low below heard keeps r
+
+  not_own : owned_before w.node.view (partition w.node.home.config p) (number_of w.node) ≡ false
+  not_own =
+      ap (λ (o : Option View). owned_before o (partition w.node.home.config p) (number_of w.node)) has.view
+      ∙ ap (λ (z : Sizes). owner_of v (partition z p) == number_of w.node) has.config
+      ∙ ap (λ (k : ℕ). owner_of v (partition c.config p) == k) has.number ∙ other
+
+  fits : (t : TxId) → t.node ≡ n → KindFits false (held_by w.node.home.txs t p)
+  fits t is = subst (λ (b : Bool). KindFits b (held_by w.node.home.txs t p)) not_own (at_node c e n acts w t.node (λ o. KindIn o t p) is (gone.homes.kinds t))
+
+  says : ReportIs a.era (reported_on a n v.epoch).reached (reported_on a n v.epoch).listed a.right (reported_on a n v.epoch).home p n v.epoch (report (partition c.config p) w.node.home)
+  says = report_says c e n p v.epoch w a blank acts low below has.config has.number home (in_time blank a reached n) (reached_holds blank a reached) fits gone
+
+  era_now : era_at c (partition c.config p) w.node.epoch ≡ v.epoch
+  era_now = ap (era_at c (partition c.config p)) has.epoch ∙ era_is c (s.epoch + 1) v has.next (partition c.config p) ∙ new
+
+  may : MayReport c e n p w (reported_on a n v.epoch) (owner_of v (partition c.config p)) (report (partition c.config p) w.node.home)
+  may =
+      record {
+        other = other;
+        says = λ comes.
+            subst
+            (λ (k : ℕ). ReportIs a.era (reported_on a n v.epoch).reached (reported_on a n v.epoch).listed a.right (reported_on a n v.epoch).home p n k (report (partition c.config p) w.node.home)) (sym era_now)
+            says;
+        before = s.epoch;
+        later = (let is = has.epoch in omega (arith, is));
+        behind =
+            all_weaker (OnWay c n s n (owner_of v (partition c.config p))) (λ (m : Message). m.epoch ≤ s.epoch) (λ m way. way.behind refl) (coming (land c e n w) p n (owner_of v (partition c.config p)))
+            (known_coming c e n p s acts has.up order parties w none n (owner_of v (partition c.config p)));
+      }
+
+  pub tell_leads : Leads c e n p (λ x b. IsEntered a → IsEntered b) z (send_report (partition c.config p) (owner_of v (partition c.config p)) w)
+  tell_leads =
+      record {
+        page = reported_on a n v.epoch;
+        run = run_gone c e n p v.epoch s j w a acts has.up order parties none late low below heard keeps r z named first;
+        related = report_is_kept c e n p (owner_of v (partition c.config p)) (report (partition c.config p) w.node.home) w (reported_on a n v.epoch) acts may gone;
+        known = λ entered. entered;
+      }
+
+-- the era of a node's epoch is that of its view
+pub era_now_is : (c : Cluster) (q n : ℕ) (s : NodeState) (old : View) → Acts c n → node_at c n ≡ Some s → s.view ≡ Some old → era_at c q s.epoch ≡ since_of old q
+era_now_is c q n s old acts up own = era_is c s.epoch old (stands c n s old (up_is_member_law c n s acts.cluster up).1 own).there q
+
+pub tells_on_law : TellsOn
+tells_on_law c e n p s old v w a blank acts may other was has r =
+    subst (λ (b : Bool). Leads c e n p (λ x b. IsEntered a → IsEntered b) a (send_report (partition c.config p) (owner_of v (partition c.config p)) (with_node w (left_if b (partition c.config p) w.node)))) (sym not_own)
+    (tell_leads c e n p s j v w a blank acts may.has may.order may.parties may.none may.home (subst (IsHeardAt c n p) same may.heard) may.reached may.new other eras.1 below late may.has.number keeps rel a
+    (then here (reports n v.epoch eras.1 below may.used)))
+  where
+    j : NodeState
+    j = stood s.epoch s.view w.node.home.txs.born w.node
+
+    not_own : owned_before s.view (partition c.config p) (number_of w.node) ≡ false
+    not_own = ap (λ (k : ℕ). owned_before s.view (partition c.config p) k) may.has.number ∙ has.not_own
+
+    rel : IsWorkOf c e n p (with_node w (stood s.epoch s.view w.node.home.txs.born w.node)) a
+    rel = subst (λ (b : ℕ). IsWorkOf c e n p (with_node w (stood s.epoch s.view b w.node)) a) (sym was.born) r
+
+    eras : (a.reached n ≡ since_of old (partition c.config p)) × (a.era ≤ a.reached n)
+    eras = reached_old c e n p (stood s.epoch s.view w.node.home.txs.born w.node) old w a acts was.own rel
+
+    bounds : (since_of old (partition c.config p) < v.epoch) × (s.epoch < v.epoch)
+    bounds = old_below c n (partition c.config p) s old v w.node acts may.has was.own
+
+    below : a.reached n < v.epoch
+    below = let same = eras.0 in let less = bounds.0 in omega (arith, same, less)
+
+    late : s.epoch < v.epoch
+    late = bounds.1
+
+    keeps : KeepsPage c p v.epoch a.era (stood s.epoch s.view w.node.home.txs.born w.node) w.node
+    keeps =
+        keeps_unowned c n p a.era s old v w.node acts may.has was.own has.not_own other may.new
+        (let low = eras.1 in let less = below in omega (arith, low, less)) has.free
+
+    same : era_at c (partition c.config p) s.epoch ≡ a.reached n
+    same = era_now_is c (partition c.config p) n s old acts may.has.up was.own ∙ sym eras.0

@@ -1,0 +1,5 @@
+pub mod Knowing
+pub mod Taking
+pub mod Telling
+pub mod Unseen
+pub mod Installing

@@ -1,0 +1,12 @@
+pub mod Held
+pub mod Shelved
+pub mod Keeping
+pub mod Redoing
+pub mod Ending
+pub mod Stepping
+pub mod Gaining
+pub mod Granting
+pub mod Known
+pub mod Staying
+pub mod Gained
+pub mod Joined
