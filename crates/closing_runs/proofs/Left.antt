@@ -3,51 +3,47 @@ use Rattle.std.proofs.Common.{◌≡◌, refl, sym, subst, ℕ, List, Option, So
 use Rattle.pcl_base.specs.declared.message.Body.{Body}
 use Rattle.pcl_base.specs.declared.message.Message.{Message}
 use Rattle.pcl_base.specs.declared.reply.Reason.{Reason}
-use Rattle.node_rules.specs.NodeState.{NodeState, NodeEvent, Read, Write, Commit, Abort, Deliver, Install}
+use Rattle.node_rules.specs.NodeState.{NodeEvent, Read, Write, Commit, Abort, Deliver, Install}
 use Rattle.node_rules.specs.NodeStep.{begin_work, do_event, unless_refused, plan_of, nodestep}
 use Rattle.node_rules.specs.Refusals.{refusal}
+use Rattle.cluster_rules.specs.Clusters.{Cluster}
 use Rattle.node_rules.specs.Work.{Outcome, Goes, Differs, Work, and_so}
-use Rattle.page_relation.specs.Laws as pages
 use Rattle.loss_relation.specs.Writes.{IsNoReport, RedoesNothing}
-use Rattle.related_runs.proofs.GoingOn.{runs_are_true_law}
 use Rattle.between_events.specs.Events.{ActsByEvent, ActsOn, TakesIn}
 use Rattle.between_events.proofs.Events.{events_keep_pages_law}
 use Rattle.redo_halts.proofs.Stopping.{all_stops_are_related_law}
 use Rattle.acted_events.proofs.Answering.{no_act_differs_law}
 use Rattle.acted_events.proofs.Whole.{acted_is_kept_law}
-use Rattle.closing_runs.specs.Closing.{RedoingKeeps, RedoingIsLeft, RunsAreTrueButForRedoing, OnlyRedoingDiffers}
+use Rattle.closing_runs.specs.Closing.{RedoingKeeps, RedoingIsLeft, OnlyRedoingDiffers}
 
 -- an event that redoes no page
-acts_on : (blank : List ℕ) (ev : NodeEvent) → RedoesNothing ev → ActsOn blank ev
-acts_on blank ev nothing c e n s w is made =
+acts_on : (blank : List ℕ) (c : Cluster) (ev : NodeEvent) → RedoesNothing ev → ActsOn blank c ev
+acts_on blank c ev nothing e n s w is made =
     acted_is_kept_law blank ev nothing c e n s w is (record { handed = made.handed; free = made.free; goes = made.goes; whole = made.whole })
 
 -- a message that is no report
-takes_in : (blank : List ℕ) (from : ℕ) (m : Message) (b : Body) → m.body ≡ b → IsNoReport b → TakesIn blank from m
-takes_in blank from m b same none c e n s w is made taken = acts_on blank (Deliver from m) (subst IsNoReport (sym same) none) c e n s w is made
+takes_in : (blank : List ℕ) (c : Cluster) (from : ℕ) (m : Message) (b : Body) → m.body ≡ b → IsNoReport b → TakesIn blank c from m
+takes_in blank c from m b same none e n s w is made taken = acts_on blank c (Deliver from m) (subst IsNoReport (sym same) none) e n s w is made
 
-acts : (blank : List ℕ) → RedoingKeeps blank → ActsByEvent blank
-acts blank k =
+acts : (blank : List ℕ) (c : Cluster) → RedoingKeeps blank c → ActsByEvent blank c
+acts blank c k =
     record {
-      reads = λ t p. acts_on blank (Read t p) tt;
-      writes = λ t p place bytes. acts_on blank (Write t p place bytes) tt;
-      commits = λ t. acts_on blank (Commit t) tt;
-      aborts = λ t. acts_on blank (Abort t) tt;
+      reads = λ t p. acts_on blank c (Read t p) tt;
+      writes = λ t p place bytes. acts_on blank c (Write t p place bytes) tt;
+      commits = λ t. acts_on blank c (Commit t) tt;
+      aborts = λ t. acts_on blank c (Abort t) tt;
       installs = k.installs;
-      requests = λ from m r same. takes_in blank from m _ same tt;
-      grants = λ from m g same. takes_in blank from m _ same tt;
-      releases = λ from m r same. takes_in blank from m _ same tt;
-      returns = λ from m r same. takes_in blank from m _ same tt;
+      requests = λ from m r same. takes_in blank c from m _ same tt;
+      grants = λ from m g same. takes_in blank c from m _ same tt;
+      releases = λ from m r same. takes_in blank c from m _ same tt;
+      returns = λ from m r same. takes_in blank c from m _ same tt;
       reports = k.reports;
-      stopped_installs = λ v. all_stops_are_related_law blank (Install v);
-      stopped_reports = λ from m r same. all_stops_are_related_law blank (Deliver from m);
+      stopped_installs = λ v. all_stops_are_related_law blank c (Install v);
+      stopped_reports = λ from m r same. all_stops_are_related_law blank c (Deliver from m);
     }
 
 pub redoing_is_left_law : RedoingIsLeft
-redoing_is_left_law blank k = events_keep_pages_law blank (acts blank k)
-
-pub runs_are_true_but_for_redoing_law : RunsAreTrueButForRedoing
-runs_are_true_but_for_redoing_law c es limits k = runs_are_true_law c es limits (redoing_is_left_law (pages.blank c) k)
+redoing_is_left_law blank c e k = events_keep_pages_law blank c e (acts blank c k)
 
 pub only_redoing_differs_law : OnlyRedoingDiffers
 unfolding nodestep

@@ -1,7 +1,5 @@
--- What is still to show for whole runs, and what follows from it.
+-- What is left of the steps from a cluster of a run, and what follows from it.
 use Rattle.std.specs.Prelude.{◌≡◌, ℕ, List}
-use Rattle.std.specs.List.{AllByRecursion}
-use Rattle.pcl_base.specs.Limits.{Sizes, InLimits}
 use Rattle.pcl_base.specs.declared.event.Event.{Event}
 use Rattle.pcl_base.specs.declared.message.Body.TheVariants as body
 use Rattle.pcl_base.specs.declared.message.Message.{Message}
@@ -11,25 +9,20 @@ use Rattle.node_rules.specs.NodeState.{NodeState, NodeEvent, Install}
 use Rattle.node_rules.specs.NodeStep.{nodestep}
 use Rattle.node_rules.specs.Work.{Differs}
 use Rattle.cluster_rules.specs.Clusters.{Cluster}
-use Rattle.cluster_rules.specs.Run.{run}
+use Rattle.cluster_rules.specs.ClusterStep.{step}
 use Rattle.cluster_laws.specs.Handed.{IsHanded}
-use Rattle.page_relation.specs.Laws.{blank}
 use Rattle.loss_relation.specs.Writes.{RedoesNothing}
-use Rattle.related_runs.specs.RunLaws.{IsOfRun, IsTrue, StepsKeepPages}
+use Rattle.related_runs.specs.RunLaws.{IsOfRun, LeavesPages}
 use Rattle.between_events.specs.Events.{ActsOn, TakesIn}
 
--- What is left: an install, and a report that is taken, made whole.
-pub record RedoingKeeps (blank : List ℕ) : Type 0 where
-  pub installs : (v : View) → ActsOn blank (Install v)
-  pub reports : (from : ℕ) (m : Message) (r : Report) → m.body ≡ body.Report r → TakesIn blank from m
+-- What is left at a cluster: an install, and a report that is taken, made whole.
+pub record RedoingKeeps (blank : List ℕ) (c : Cluster) : Type 0 where
+  pub installs : (v : View) → ActsOn blank c (Install v)
+  pub reports : (from : ℕ) (m : Message) (r : Report) → m.body ≡ body.Report r → TakesIn blank c from m
 
 -- Where these keep the pages of a cluster of a run, each step does.
 abbrev pub RedoingIsLeft : Type 0
-RedoingIsLeft = (blank : List ℕ) → RedoingKeeps blank → StepsKeepPages blank
-
--- Then every cluster of a run is fresh, serial and durable.
-abbrev pub RunsAreTrueButForRedoing : Type 0
-RunsAreTrueButForRedoing = (c : Sizes) (es : List Event) → InLimits c → RedoingKeeps (blank c) → AllByRecursion IsTrue (run c es)
+RedoingIsLeft = (blank : List ℕ) (c : Cluster) (e : Event) → RedoingKeeps blank c → IsOfRun blank c → LeavesPages blank (step c e)
 
 -- No page differs in the step of a node on any other event.
 abbrev pub OnlyRedoingDiffers : Type 0

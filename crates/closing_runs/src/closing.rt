@@ -1,13 +1,8 @@
-ghost use Rattle.closing_runs.specs.Closing.{RedoingIsLeft, RunsAreTrueButForRedoing, OnlyRedoingDiffers};
+ghost use Rattle.closing_runs.specs.Closing.{RedoingIsLeft, OnlyRedoingDiffers};
 
-/// Each step keeps the pages of a cluster of a run, where installs and reports that are taken do.
+/// Each step from a cluster of a run keeps its pages, where installs and reports that are taken there do.
 pub fn redoing_is_left()
     ensures { RedoingIsLeft }
-{}
-
-/// Then every cluster of every run is fresh, serial and durable.
-pub fn runs_are_true_but_for_redoing()
-    ensures { RunsAreTrueButForRedoing }
 {}
 
 /// No page differs in a step that redoes none.
