@@ -1,17 +1,10 @@
--- Runs, where each step keeps the pages of its cluster related.
-use Rattle.std.specs.Prelude.{◌≡◌, ℕ, ◌<◌, true, List, Some}
-use Rattle.std.specs.List.{AllByRecursion}
+-- Clusters of runs, and steps that keep the pages of such a cluster related.
+use Rattle.std.specs.Prelude.{◌≡◌, ℕ, ◌<◌, true, List}
 use Rattle.pcl_base.specs.Limits.{Sizes, InLimits}
 use Rattle.pcl_base.specs.declared.event.Event.{Event}
 use Rattle.pcl_base.specs.declared.tx.TxId.{TxId}
-use Rattle.run_rules.specs.Account.{IsAccounted}
-use Rattle.run_rules.specs.Durable.{IsDurable}
-use Rattle.run_rules.specs.Fresh.{IsFresh}
-use Rattle.run_rules.specs.Serial.{IsSerial}
-use Rattle.cluster_rules.specs.Clusters.{Cluster}
+use Rattle.cluster_rules.specs.Clusters.{Cluster, opening}
 use Rattle.cluster_rules.specs.ClusterStep.{step}
-use Rattle.cluster_rules.specs.Run.{run}
-use Rattle.cluster_rules.specs.Safe.{Safe}
 use Rattle.pcl_base.specs.declared.tx.Mode.TheVariants.{Exclusive}
 use Rattle.page_protocol.specs.Bytes.{writes}
 use Rattle.page_protocol.specs.State.{Page, Holding}
@@ -46,30 +39,10 @@ pub record LeavesPages (blank : List ℕ) (c : Cluster) : Type 0 where
   pub pages : HasPages blank c
   pub between : AreBetween c pages.page
 
--- The one premise: a step from such a cluster leaves its pages so.
-abbrev pub StepsKeepPages : List ℕ → Type 0
-StepsKeepPages blank = (c : Cluster) (e : Event) → IsOfRun blank c → LeavesPages blank (step c e)
+-- The opening cluster is one.
+abbrev pub OpeningIsOfRun : Type 0
+OpeningIsOfRun = (c : Sizes) → InLimits c → IsOfRun (blank c) (opening c)
 
--- Then all else is kept too.
+-- Where a step leaves the pages so, all else is kept too.
 abbrev pub StepsGoOn : Type 0
 StepsGoOn = (blank : List ℕ) (c : Cluster) (e : Event) → LeavesPages blank (step c e) → IsOfRun blank c → IsOfRun blank (step c e)
-
--- So it holds of every cluster of a run.
-abbrev pub RunsAreRelated : Type 0
-RunsAreRelated = (c : Sizes) (es : List Event) → InLimits c → StepsKeepPages (blank c) → AllByRecursion (IsOfRun (blank c)) (run c es)
-
--- what is promised of a cluster, but for the account of its messages
-pub record IsTrue (c : Cluster) : Type 0 where
-  pub fresh : IsFresh c.config c.trace
-  pub serial : IsSerial c.config c.trace
-  pub durable : IsDurable c.config c.trace c.disk
-
--- every cluster of a run keeps it
-abbrev pub RunsAreTrue : Type 0
-RunsAreTrue = (c : Sizes) (es : List Event) → InLimits c → StepsKeepPages (blank c) → AllByRecursion IsTrue (run c es)
-
--- and where each message has its cause, it is safe
-abbrev pub RunsAreSafe : Type 0
-RunsAreSafe =
-    (c : Sizes) (es : List Event) → InLimits c → StepsKeepPages (blank c) → AllByRecursion (λ k. IsAccounted k.config k.trace) (run c es)
-    → AllByRecursion Safe (run c es)

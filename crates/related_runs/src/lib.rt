@@ -1,10 +1,10 @@
 #![tactic(auto)]
 
-//! From related clusters to what is promised of runs.
+//! From related clusters to clusters of runs.
 //!
 //! `page_relation` says when a cluster and the states of its pages in the machine of one page say the same. Here
-//! stands what follows for clusters so related, and for runs, where each step keeps its pages related: that is the
-//! one premise which is still open (`StepsKeepPages`). Each law is the clause of a function that does nothing.
+//! stands what follows for clusters so related, and what a cluster of a run keeps through a step that leaves its pages
+//! related (`IsOfRun`). Each law is the clause of a function that does nothing.
 
 mod granted;
 mod parties;
@@ -19,4 +19,4 @@ pub use parts::{
     steps_have_serials, steps_have_within,
 };
 pub use related::{related_is_durable, related_is_serial, related_stays_fresh};
-pub use runs::{kinds_are_all, runs_are_related, runs_are_safe, runs_are_true, steps_go_on};
+pub use runs::{kinds_are_all, opening_is_of_run, steps_go_on};

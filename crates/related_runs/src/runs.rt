@@ -1,7 +1,7 @@
-//! Laws of runs whose steps keep the pages related.
+//! Laws of clusters of runs, and of steps that keep their pages related.
 
 ghost use Rattle.related_runs.specs.Kinds.{KindsAreAll};
-ghost use Rattle.related_runs.specs.RunLaws.{StepsGoOn, RunsAreRelated, RunsAreTrue, RunsAreSafe};
+ghost use Rattle.related_runs.specs.RunLaws.{OpeningIsOfRun, StepsGoOn};
 
 /// A step keeps the pages of a cluster of a run related, where the steps of each kind from that cluster do.
 pub fn kinds_are_all()
@@ -13,17 +13,7 @@ pub fn steps_go_on()
     ensures { StepsGoOn }
 {}
 
-/// Then each cluster of a run is related.
-pub fn runs_are_related()
-    ensures { RunsAreRelated }
-{}
-
-/// Then each cluster of a run is fresh, serial and durable.
-pub fn runs_are_true()
-    ensures { RunsAreTrue }
-{}
-
-/// Then each cluster of a run is safe, where each message of the run has its cause.
-pub fn runs_are_safe()
-    ensures { RunsAreSafe }
+/// The opening cluster is one of a run.
+pub fn opening_is_of_run()
+    ensures { OpeningIsOfRun }
 {}

@@ -1,5 +1,0 @@
-use Rattle.related_runs.proofs.GoingOn.{runs_are_safe_law}
-use Rattle.related_runs.proofs.runs.runs_are_safe.Goals as goal
-
-pub returns : goal.returns
-returns c = runs_are_safe_law
