@@ -61,7 +61,7 @@ found f m a (suc n) is low high = by (a == m) refl (λ other. found f m (a + 1) 
     by false other rest = later (f a) (filter f (count_from (a + 1) n)) (rest (grind (arith, nat_tests, other, low)))
 
 -- a view that was made is whole
-whole_view : (c : Cluster) (v : View) → IsCluster c → view_of_epoch c.views v.epoch ≡ Some v → IsWhole c.config v
+pub whole_view : (c : Cluster) (v : View) → IsCluster c → view_of_epoch c.views v.epoch ≡ Some v → IsWhole c.config v
 whole_view c v cluster there =
     elim (seen c v.epoch cluster) [
       | inl has ↦

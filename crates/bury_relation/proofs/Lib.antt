@@ -15,3 +15,10 @@ pub mod KeptServed
 pub mod KeptEarly
 pub mod Carried
 pub mod KeptWorks
+pub mod Links
+pub mod Taken
+pub mod Awaiting
+pub mod Unsent
+pub mod Installing
+pub mod NewTables
+pub mod Joined

@@ -3,3 +3,6 @@ pub mod Running
 pub mod Past
 pub mod Whole
 pub mod Kept
+pub mod Gathered
+pub mod Installed
+pub mod Joining

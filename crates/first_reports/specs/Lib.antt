@@ -1,0 +1,4 @@
+pub mod Unviewed
+pub mod Reported
+pub mod ReportLaws
+pub mod Marked
