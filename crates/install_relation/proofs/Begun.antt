@@ -75,7 +75,7 @@ first_of true y e = refl
 first_of false y e = absurd (cc)
 
 -- no transaction where there are none of them
-empty_of : {X : Type 0} (xs : List X) → length xs ≡ 0 → xs ≡ []
+pub empty_of : {X : Type 0} (xs : List X) → length xs ≡ 0 → xs ≡ []
 empty_of [] e = refl
 empty_of (x ∷ xs) e = absurd (cc)
 

@@ -45,7 +45,7 @@ module _ (before : Option View) (v : View) (me : ℕ) where
   elsewhere : (q j : ℕ) → (j == q) ≡ false → upto before v me q j ≡ upto before v me (q + 1) j
   elsewhere q j e = ap (λ (b : Bool). pick b (owned_before (Some v) j me) (owned_before before j me)) (low_test j q e)
 
-  here_old : (q : ℕ) → upto before v me q q ≡ owned_before before q me
+  pub here_old : (q : ℕ) → upto before v me q q ≡ owned_before before q me
   here_old q = ap (λ (b : Bool). pick b (owned_before (Some v) q me) (owned_before before q me)) (not_below q)
 
   pub here_new : (q : ℕ) → upto before v me (q + 1) q ≡ owned_before (Some v) q me

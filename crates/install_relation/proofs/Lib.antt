@@ -18,3 +18,8 @@ pub mod Begun
 pub mod Beside
 pub mod Moving
 pub mod Aside
+pub mod Signs
+pub mod OwnTurn
+pub mod Logging
+pub mod OwnGets
+pub mod Whole

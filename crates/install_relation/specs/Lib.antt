@@ -3,3 +3,4 @@ pub mod Taking
 pub mod Telling
 pub mod Unseen
 pub mod Installing
+pub mod Whole
