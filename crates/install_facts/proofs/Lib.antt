@@ -1,0 +1,14 @@
+pub mod Early
+pub mod Entering
+pub mod Used
+pub mod Coming
+pub mod Standing
+pub mod Births
+pub mod Kept
+pub mod Logs
+pub mod Lost
+pub mod Keeping
+pub mod Going
+pub mod NewTable
+pub mod Taken
+pub mod Installed

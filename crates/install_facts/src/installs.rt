@@ -1,0 +1,13 @@
+//! Whole installs, each law as the clause of an empty function.
+
+ghost use Rattle.install_facts.specs.Installs.{InstallsActOn, InstallsAreKnown};
+
+/// What a whole install needs beside the relation of a page is known of it.
+pub fn installs_are_known()
+    ensures { InstallsAreKnown }
+{}
+
+/// Each whole install from a cluster of a run keeps the relation of each page.
+pub fn installs_act_on()
+    ensures { InstallsActOn }
+{}

@@ -1,0 +1,2 @@
+mod Redoing
+mod Going
