@@ -12,3 +12,8 @@ pub mod Going
 pub mod NewTable
 pub mod Taken
 pub mod Installed
+pub mod RedoOne
+pub mod Agreeing
+pub mod KeptAgreed
+pub mod TurnAgreed
+pub mod NoneDiffers

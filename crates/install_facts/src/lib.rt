@@ -8,8 +8,8 @@
 mod installs;
 mod turns;
 
-pub use installs::{installs_act_on, installs_are_known};
+pub use installs::{installs_act_on, installs_are_known, no_install_differs};
 pub use turns::{
-    kept_goes_on, taken_can_be_whole, taken_is_completed, taken_may_complete, turns_are_kept, turns_are_purged, turns_are_used, unviewed_are_quiet,
-    waiters_are_heard,
+    kept_goes_on, taken_can_be_whole, taken_is_completed, taken_may_complete, turns_are_kept,
+    turns_are_purged, turns_are_used, unviewed_are_quiet, waiters_are_heard,
 };
