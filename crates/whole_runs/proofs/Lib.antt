@@ -1,2 +1,3 @@
 mod Redoing
-mod Going
+pub mod Going
+pub mod Never

@@ -9,5 +9,6 @@
 mod runs;
 
 pub use runs::{
-    ends_are_true, runs_are_known, runs_are_safe, runs_are_true, steps_go_on, steps_keep_pages,
+    ends_are_true, no_step_differs, runs_are_known, runs_are_safe, runs_are_true, steps_go_on,
+    steps_keep_pages,
 };

@@ -1,6 +1,6 @@
 //! Laws of every run.
 
-ghost use Rattle.whole_runs.specs.Runs.{EndsAreTrue, RunsAreKnown, RunsAreSafe, RunsAreTrue, StepsGoOn, StepsKeepPages};
+ghost use Rattle.whole_runs.specs.Runs.{EndsAreTrue, NoStepDiffers, RunsAreKnown, RunsAreSafe, RunsAreTrue, StepsGoOn, StepsKeepPages};
 
 /// Each step leaves the pages of a cluster of a run related to the machine of one page.
 pub fn steps_keep_pages()
@@ -30,4 +30,9 @@ pub fn ends_are_true()
 /// Where each message of a run has its cause, every cluster of it is safe.
 pub fn runs_are_safe()
     ensures { RunsAreSafe }
+{}
+
+/// No page that a node reads in a step of a run has another number or version than it must.
+pub fn no_step_differs()
+    ensures { NoStepDiffers }
 {}
