@@ -18,6 +18,8 @@ use Rattle.report_relation.specs.Redoing.{records}
 use Rattle.report_relation.proofs.RedoMidway.{redo_midway}
 use Rattle.settle_relation.specs.Midway.{IsMidway}
 use Rattle.storage_laws.specs.Looks.{is_among}
+use Rattle.install_relation.proofs.Beside.{purge_midway}
+use Rattle.install_facts.specs.Stays.{LostIsMidway, PurgeIsMidway}
 
 -- ---- numbers that pass a test are found
 
@@ -68,3 +70,9 @@ module _ (b : Base) (c : Cluster) (e : Event) (n q : ℕ) (low : q < c.config.no
           → ((y z : Work) → IsMidway b c e n y → for_each (redo_lost lost (records c) q) rs y ≡ Goes z → IsMidway b c e n z) → IsMidway b c e n x
       by (Goes y) is done rest = rest y x (lost_midway r w y all.0 i is) done
       by (Differs k expected was) is done rest = absurd (cc)
+
+pub lost_is_midway_law : LostIsMidway
+lost_is_midway_law b c e n q lost r w x low of i goes = lost_midway b c e n q low lost r w x of i goes
+
+pub purge_is_midway_law : PurgeIsMidway
+purge_is_midway_law b c e n q v w low i = purge_midway b c e n q v w (subst (λ (k : Sizes). q < k.nodes) (sym i.config) low) i
