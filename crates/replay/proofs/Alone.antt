@@ -4,7 +4,8 @@ use Rattle.std.proofs.lemmas.Bool.{and_parts, leb-true}
 use Rattle.pcl_base.specs.Limits.{Sizes, InLimits, config_of, is_between, within}
 use Rattle.pcl_base.specs.declared.config.ConfigFault.{ConfigFault}
 use Rattle.pcl_base.specs.declared.config.ConfigFault.TheVariants.{BadNodes, BadPages, BadSize, BadFrames}
-use Rattle.single_laws.proofs.Runs.{alone_is_fresh_law, alone_is_serial_law}
+use Rattle.single_laws.proofs.Runs.{alone_is_accounted_law}
+use Rattle.whole_runs.proofs.Going.{ends_are_true_law}
 use Rattle.replay_rules.specs.Outcome.{Outcome as OutcomeOfRules}
 use Rattle.replay_rules.specs.Schedule.{RanWhole}
 use Rattle.replay_laws.proofs.Outcomes.{ran_whole}
@@ -48,7 +49,7 @@ limits_by true true true true d c a b e f h =
     subst InLimits (ap (sizes_or d) h) limits
 
 -- a configuration is within the limits
-config_limits : (nodes pages size frames : ℕ) (c : Sizes) → config_of nodes pages size frames ≡ Ok c → InLimits c
+pub config_limits : (nodes pages size frames : ℕ) (c : Sizes) → config_of nodes pages size frames ≡ Ok c → InLimits c
 config_limits nodes pages size frames c h =
     let d : Sizes = record { nodes = nodes; pages = pages; size = size; frames = frames } in
     limits_by (is_between 1 16 nodes) (is_between 1 65536 pages) (is_between 8 4096 size) (is_between 2 4096 frames) d c refl refl refl refl h
@@ -58,8 +59,11 @@ pub traced_run : (t : Bool) (left left' written written' : Option (List ℕ)) (s
 traced_run t left left' written written' source source' sink sink' o =
     let run : RanWhole t left left' written written' = ran_whole t left left' written written' source source' sink sink' o in
     let limits = config_limits run.header.nodes run.header.pages run.header.size run.header.frames run.sizes run.schedule.numbers in
+    let true_run = ends_are_true_law run.sizes run.events limits in
     record {
       run = run;
-      fresh = λ one alone. alone_is_fresh_law run.sizes run.events limits one alone;
-      serial = λ one alone. alone_is_serial_law run.sizes run.events limits one alone;
+      fresh = true_run.fresh;
+      serial = true_run.serial;
+      durable = true_run.durable;
+      account = λ one alone. alone_is_accounted_law run.sizes run.events limits one alone;
     }

@@ -8,7 +8,7 @@ use Rattle.replay_rules.specs.Outcome.{AppendsPart, so_far, is_judged}
 use Rattle.replay_rules.specs.Outcome.{Outcome as OutcomeOfRules}
 use Rattle.replay.specs.declared.ends.Fault.{Fault}
 use Rattle.replay.specs.ReaderView.{ReaderView, first_reader}
-use Rattle.replay.specs.Outcome.{Outcome}
+use Rattle.replay.specs.Outcome.{OutcomeOrDifference}
 use Rattle.replay.specs.Wrote.{Closes, HasBlame, GoesOn, Went, Reached, IsWriteFault, status_of}
 use Rattle.replay.proofs.Alone.{traced_run}
 use Rattle.replay.proofs.EndLemmas.{appends_both, consumes_both}
@@ -63,7 +63,7 @@ judged_further a b text status judged written =
 
 end_runs : (t : Bool) (left left' a b c : Option (List ℕ)) (source source' sink sink' : ℕ) (taken : List ℕ) (status : ℕ) (r : ReaderView) → Consumes left left' taken
     → IsAtEnd left' → Went (first_reader t) taken a b None r → (at_end r.totals (Going r.reading)).place ≡ Stopped status → IsTrue (is_judged status)
-    → Closes r b c (Ok status) → Outcome t left left' a c source source' sink sink' status
+    → Closes r b c (Ok status) → OutcomeOrDifference t left left' a c source source' sink sink' status
 end_runs t left left' a b c source source' sink sink' taken status r consumed end went place judged closes =
     record {
       taken = taken;
@@ -85,7 +85,7 @@ end_runs t left left' a b c source source' sink sink' taken status r consumed en
 
 end_fails : (t : Bool) (left left' a b c : Option (List ℕ)) (source source' sink sink' : ℕ) (taken : List ℕ) (fault : Fault) (r : ReaderView) → Consumes left left' taken
     → IsAtEnd left' → IsWriteFault sink sink' fault → Closes r b c (Err fault) → Went (first_reader t) taken a b None r
-    → Outcome t left left' a c source source' sink sink' (status_of (Err fault))
+    → OutcomeOrDifference t left left' a c source source' sink sink' (status_of (Err fault))
 end_fails t left left' a b c source source' sink sink' taken fault r consumed end cause closes went =
     fault_outcome t left left' a c source source' sink sink' taken fault consumed cause
     (elim went [
@@ -101,7 +101,7 @@ end_fails t left left' a b c source source' sink sink' taken fault r consumed en
 closes_case : (t : Bool) (r : ReaderView) (left left' a b c : Option (List ℕ)) (source source' sink sink1 sink' : ℕ) (taken : List ℕ) (result : Result ℕ Fault)
     → Consumes left left' taken → IsAtEnd left' → Went (first_reader t) taken a b None r → Closes r b c result → sink ≤ sink1 → HasBlame sink1 sink' result
     → IfOk result (λ s. (at_end r.totals (Going r.reading)).place ≡ Stopped s) → IfOk result (λ s. IsTrue (is_judged s))
-    → Outcome t left left' a c source source' sink sink' (status_of result)
+    → OutcomeOrDifference t left left' a c source source' sink sink' (status_of result)
 closes_case t r left left' a b c source source' sink sink1 sink' taken (Ok status) consumed end went closes later blame place judged =
     end_runs t left left' a b c source source' sink sink' taken status r consumed end went place judged closes
 closes_case t r left left' a b c source source' sink sink1 sink' taken (Err fault) consumed end went closes later blame place judged =
@@ -110,7 +110,7 @@ closes_case t r left left' a b c source source' sink sink1 sink' taken (Err faul
 pub finished : (t : Bool) (r : ReaderView) (left left1 left2 a b c : Option (List ℕ)) (source source1 source2 sink sink1 sink2 : ℕ) (result : Result ℕ Fault)
     → Reached (first_reader t) left left1 a b source source1 sink sink1 r → Consumes left1 left2 [] → IsAtEnd left2 → Closes r b c result → HasBlame sink1 sink2 result
     → IfOk result (λ s. (at_end r.totals (Going r.reading)).place ≡ Stopped s) → IfOk result (λ s. IsTrue (is_judged s))
-    → Outcome t left left2 a c source source2 sink sink2 (status_of result)
+    → OutcomeOrDifference t left left2 a c source source2 sink sink2 (status_of result)
 finished t r left left1 left2 a b c source source1 source2 sink sink1 sink2 result here nothing end closes blame place judged =
     closes_case t r left left2 a b c source source2 sink sink1 sink2 here.taken result
     (subst (Consumes left left2) (append-nil here.taken) (consumes_both left left1 left2 here.taken [] here.consumed nothing)) end here.went closes here.later_sink blame place judged

@@ -12,3 +12,5 @@ mod Reaching
 mod Outcomes
 mod Endings
 mod Holding
+mod RunsRead
+mod Never

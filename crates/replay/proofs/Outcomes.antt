@@ -10,7 +10,7 @@ use Rattle.replay_rules.specs.Outcome.{Outcome as OutcomeOfRules}
 use Rattle.replay.specs.declared.ends.Fault.{Fault}
 use Rattle.replay.specs.declared.ends.Fault.TheVariants.{Source, Sink, Memory}
 use Rattle.replay.specs.ReaderView.{ReaderView, first_reader}
-use Rattle.replay.specs.Outcome.{Outcome, HasDiffered}
+use Rattle.replay.specs.Outcome.{OutcomeOrDifference, HasDiffered}
 use Rattle.replay.specs.Told.{IsStop}
 use Rattle.replay.specs.Wrote.{GoesOn, Went, Broke, Reached, IsWriteFault, status_of}
 use Rattle.replay.proofs.EndLemmas.{consumes_both, consumes_kept}
@@ -33,7 +33,7 @@ source_by_rules t left left' a b source source' sink sink' taken r consumed rose
     }
 
 source_runs : (t : Bool) (left left' a b : Option (List ℕ)) (source source' sink sink' : ℕ) (taken : List ℕ) (r : ReaderView) → Consumes left left' taken
-    → Rose source source' → Went (first_reader t) taken a b None r → Outcome t left left' a b source source' sink sink' 4
+    → Rose source source' → Went (first_reader t) taken a b None r → OutcomeOrDifference t left left' a b source source' sink sink' 4
 source_runs t left left' a b source source' sink sink' taken r consumed rose went =
     record {
       taken = taken;
@@ -52,7 +52,7 @@ source_runs t left left' a b source source' sink sink' taken r consumed rose wen
 
 pub source_failed : (t : Bool) (r : ReaderView) (left left1 left2 a b : Option (List ℕ)) (source source1 source2 sink sink' : ℕ)
     → Reached (first_reader t) left left1 a b source source1 sink sink' r → Keeps left1 left2 → Rose source1 source2
-    → Outcome t left left2 a b source source2 sink sink' 4
+    → OutcomeOrDifference t left left2 a b source source2 sink sink' 4
 source_failed t r left left1 left2 a b source source1 source2 sink sink' here kept rose =
     source_runs t left left2 a b source source2 sink sink' here.taken r (consumes_kept left left1 left2 here.taken here.consumed kept)
     (rose_earlier source source1 source2 here.later_source rose) here.went
@@ -88,7 +88,7 @@ memory_by_rules t left left' a b source source' sink sink' taken consumed part =
 -- a fault, behind which a beginning of the text is written
 pub fault_outcome : (t : Bool) (left left' a b : Option (List ℕ)) (source source' sink sink' : ℕ) (taken : List ℕ) (fault : Fault) → Consumes left left' taken
     → IsWriteFault sink sink' fault → WritesPart t taken left' a b ⊎ HasDiffered t first_place taken a b None
-    → Outcome t left left' a b source source' sink sink' (status_of (Err fault))
+    → OutcomeOrDifference t left left' a b source source' sink sink' (status_of (Err fault))
 fault_outcome t left left' a b source source' sink sink' taken Source consumed cause either = absurd cause
 fault_outcome t left left' a b source source' sink sink' taken Sink consumed cause either =
     record {
@@ -129,7 +129,7 @@ broken t left a b taken (inr d) = inr d
 
 pub piece_failed : (t : Bool) (r : ReaderView) (left left1 left2 a b c : Option (List ℕ)) (source source1 source2 sink sink1 sink2 : ℕ) (piece : List ℕ) (fault : Fault)
     → Reached (first_reader t) left left1 a b source source1 sink sink1 r → Consumes left1 left2 piece → IsWriteFault sink sink2 fault → Broke r piece b c
-    → Outcome t left left2 a c source source2 sink sink2 (status_of (Err fault))
+    → OutcomeOrDifference t left left2 a c source source2 sink sink2 (status_of (Err fault))
 piece_failed t r left left1 left2 a b c source source1 source2 sink sink1 sink2 piece fault here read cause broke =
     fault_outcome t left left2 a c source source2 sink sink2 (here.taken ++ piece) fault
     (consumes_both left left1 left2 here.taken piece here.consumed read) cause
@@ -141,12 +141,12 @@ went_part t r a b taken (inl g) = inl (part_whole a b _ g.text)
 went_part t r a b taken (inr d) = inr d
 
 pub out_of_memory : (t : Bool) (r : ReaderView) (left left' a b : Option (List ℕ)) (source source' sink sink' : ℕ)
-    → Reached (first_reader t) left left' a b source source' sink sink' r → Outcome t left left' a b source source' sink sink' 9
+    → Reached (first_reader t) left left' a b source source' sink sink' r → OutcomeOrDifference t left left' a b source source' sink sink' 9
 out_of_memory t r left left' a b source source' sink sink' here =
     fault_outcome t left left' a b source source' sink sink' here.taken Memory here.consumed tt
     (broken t left' a b here.taken (went_part t r a b here.taken here.went))
 
-pub no_memory : (t : Bool) (left a : Option (List ℕ)) (source sink : ℕ) → Outcome t left left a a source source sink sink 9
+pub no_memory : (t : Bool) (left a : Option (List ℕ)) (source sink : ℕ) → OutcomeOrDifference t left left a a source source sink sink 9
 no_memory t left a source sink =
     out_of_memory t (first_reader t) left left a a source source sink sink (first_reached (first_reader t) left a source sink)
 
@@ -181,7 +181,7 @@ stop_by_rules t left left' a b source source' sink sink' taken status r consumed
     }
 
 stop_runs : (t : Bool) (left left' a b : Option (List ℕ)) (source source' sink sink' : ℕ) (taken : List ℕ) (status : ℕ) (r : ReaderView) → Consumes left left' taken
-    → IsStop (Some status) → Went (first_reader t) taken a b (Some status) r → Outcome t left left' a b source source' sink sink' status
+    → IsStop (Some status) → Went (first_reader t) taken a b (Some status) r → OutcomeOrDifference t left left' a b source source' sink sink' status
 stop_runs t left left' a b source source' sink sink' taken status r consumed stop went =
     record {
       taken = taken;
@@ -200,7 +200,7 @@ stop_runs t left left' a b source source' sink sink' taken status r consumed sto
 
 pub piece_stopped : (t : Bool) (r w : ReaderView) (left left1 left2 a b c : Option (List ℕ)) (source source1 source2 sink sink1 sink2 : ℕ) (piece : List ℕ) (status : ℕ)
     → Reached (first_reader t) left left1 a b source source1 sink sink1 r → Consumes left1 left2 piece → IsStop (Some status) → Went r piece b c (Some status) w
-    → Outcome t left left2 a c source source2 sink sink2 status
+    → OutcomeOrDifference t left left2 a c source source2 sink sink2 status
 piece_stopped t r w left left1 left2 a b c source source1 source2 sink sink1 sink2 piece status here read stop went =
     stop_runs t left left2 a c source source2 sink sink2 (here.taken ++ piece) status w
     (consumes_both left left1 left2 here.taken piece here.consumed read) stop

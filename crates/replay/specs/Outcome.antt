@@ -46,8 +46,8 @@ pub record HasDiffered (totals : Bool) (from : Place) (bytes : List ℕ) (writte
   pub text : Appends written written' ((read_from totals from front).text ++ more)
   pub last : IsLast status more
 
--- a run as the rules say; and at 0 the whole run of a schedule was told
-pub record GoesByRules (totals : Bool) (left left' written written' : Option (List ℕ)) (source source' sink sink' status : ℕ) : Type 0 where
+-- What a run comes to: it is that of the rules; and at 0 the whole run of a schedule was told.
+pub record Outcome (totals : Bool) (left left' written written' : Option (List ℕ)) (source source' sink sink' status : ℕ) : Type 0 where
   pub outcome : OutcomeOfRules totals left left' written written' source source' sink sink' status
   pub traced : status ≡ 0 → IsTraced totals left left' written written'
 
@@ -55,14 +55,13 @@ pub record GoesByRules (totals : Bool) (left left' written written' : Option (Li
 abbrev pub is_status : ℕ → Bool
 is_status status = is_judged status || (status == 4 || (status == 5 || (status == 8 || status == 9)))
 
--- The outcome of a run, of which `taken` are the bytes that the source gave, and `totals` tells whether
--- the totals are written in place of the trace. It is that of the rules, unless somewhere in the bytes
--- taken a step of the rules reads a page that differs. Only then 8 comes. 4 comes only where the source
--- failed, 5 only where the sink failed, and 9 is want of memory.
-pub record Outcome (totals : Bool) (left left' written written' : Option (List ℕ)) (source source' sink sink' status : ℕ) : Type 0 where
+-- What the text of the functions alone shows of a run, of which `taken` are the bytes that the source gave:
+-- its outcome is that of the rules, unless somewhere in the bytes taken a step of the rules reads a page
+-- that differs. Only then 8 comes. No step does (proofs/Never).
+pub record OutcomeOrDifference (totals : Bool) (left left' written written' : Option (List ℕ)) (source source' sink sink' status : ℕ) : Type 0 where
   pub taken : List ℕ
   pub consumed : Consumes left left' taken
   pub known : IsTrue (is_status status)
   pub failed_source : status ≡ 4 → Rose source source'
   pub failed_sink : status ≡ 5 → Rose sink sink'
-  pub runs : GoesByRules totals left left' written written' source source' sink sink' status ⊎ HasDiffered totals first_place taken written written' (Some status)
+  pub runs : Outcome totals left left' written written' source source' sink sink' status ⊎ HasDiffered totals first_place taken written written' (Some status)

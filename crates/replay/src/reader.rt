@@ -162,6 +162,7 @@ impl Reader {
         match cluster.step(event) {
             Ok(()) => self.tell(event, text),
             Err(ClusterFault::NoMemory) => Err(NoMemory),
+            // No run comes here: `replay` shows it of the whole schedule.
             Err(
                 ClusterFault::Differs {
                     page: _page,

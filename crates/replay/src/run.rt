@@ -2,7 +2,7 @@ ghost use Rattle.std.specs.Prelude.{◌≡◌, ◌<◌, ◌≤◌, [], ◌∷◌
 ghost use Rattle.replay_rules.specs.Due.{at_end};
 ghost use Rattle.replay_rules.specs.Due.Place.{Going, Stopped};
 ghost use Rattle.replay_rules.specs.Outcome.{AppendsPart, is_judged};
-ghost use Rattle.replay.specs.Outcome.{Outcome};
+ghost use Rattle.replay.specs.Outcome.{Outcome, OutcomeOrDifference};
 ghost use Rattle.replay.specs.ReaderView.{first_reader};
 ghost use Rattle.replay.specs.Held.{Held, HeldAll, Stored};
 ghost use Rattle.replay.specs.Told.{IsStop};
@@ -24,9 +24,8 @@ const MUCH: usize = 65_536;
 /// `totals` is true its totals alone, and answers the status.
 ///
 /// The statuses are those of README.md: 0 at the end of the input; 3 at a line outside its grammar; 4
-/// and 5 where the source or the sink failed; 7 at a byte of line 200,001; 9 for want of memory. 8 comes only
-/// at an event in whose step, or in one before it, a page differs that the rules read; no law excludes that
-/// yet.
+/// and 5 where the source or the sink failed; 7 at a byte of line 200,001; 9 for want of memory. No other
+/// comes: no page that a step reads differs, in no run.
 pub fn replay<I: Source, O: Sink>(alloc: Global, input: &mut I, output: &mut O, totals: bool) -> u8
     ensures { Outcome totals (I.left input.old) (I.left input.new) (O.written output.old) (O.written output.new) (I.faults input.old) (I.faults input.new) (O.faults output.old) (O.faults output.new) result }
 {
@@ -45,7 +44,7 @@ fn run<I: Source, O: Sink>(
     output: &mut O,
     totals: bool,
 ) -> Result<u8, Fault>
-    ensures { Outcome totals (I.left input.old) (I.left input.new) (O.written output.old) (O.written output.new) (I.faults input.old) (I.faults input.new) (O.faults output.old) (O.faults output.new) (status_of result) }
+    ensures { OutcomeOrDifference totals (I.left input.old) (I.left input.new) (O.written output.old) (O.written output.new) (I.faults input.old) (I.faults input.new) (O.faults output.old) (O.faults output.new) (status_of result) }
 {
     let mut reader = Reader::new(alloc, totals);
     let mut text = Text::new(alloc);
@@ -77,7 +76,7 @@ fn read_all<I: Source, O: Sink>(
     requires empty { text.old ≡ [] }
     requires none { held.old ≡ [] }
     requires room { 0 < length piece.old }
-    ensures { Outcome reader.old.totals (I.left input.old) (I.left input.new) (O.written output.old) (O.written output.new) (I.faults input.old) (I.faults input.new) (O.faults output.old) (O.faults output.new) (status_of result) }
+    ensures { OutcomeOrDifference reader.old.totals (I.left input.old) (I.left input.new) (O.written output.old) (O.written output.new) (I.faults input.old) (I.faults input.new) (O.faults output.old) (O.faults output.new) (status_of result) }
 {
     for _ in 0..u64::MAX {
         match input.read(piece) {
