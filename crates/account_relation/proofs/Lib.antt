@@ -14,3 +14,7 @@ pub mod SeenSteps
 pub mod Following
 pub mod SeenActs
 pub mod SeenKinds
+pub mod Settle
+pub mod Entry
+pub mod Grant
+pub mod Step

@@ -1,1 +1,5 @@
 pub mod Joined
+pub mod Waiting
+pub mod Table
+pub mod Reports
+pub mod Known

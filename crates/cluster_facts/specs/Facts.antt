@@ -6,12 +6,12 @@ use Rattle.cluster_rules.specs.Clusters.{Cluster, opening}
 use Rattle.cluster_rules.specs.ClusterStep.{step}
 use Rattle.page_relation.specs.Together.{HasPages}
 use Rattle.related_runs.specs.RunLaws.{IsOfRun}
-use Rattle.waiting_eras.specs.Reached.{HaveReached}
-use Rattle.table_lives.specs.Lives.{HaveTableLives}
-use Rattle.known_births.specs.Births.{HaveKnownBirths}
-use Rattle.first_reports.specs.Unviewed.{NoRightsUnviewed}
-use Rattle.first_reports.specs.Reported.{HaveReports}
-use Rattle.first_reports.specs.Marked.{WaitersAreMarked}
+use Rattle.cluster_facts.specs.Waiting.Reached.{HaveReached}
+use Rattle.cluster_facts.specs.Table.Lives.{HaveTableLives}
+use Rattle.cluster_facts.specs.Known.Births.{HaveKnownBirths}
+use Rattle.cluster_facts.specs.Reports.Unviewed.{NoRightsUnviewed}
+use Rattle.cluster_facts.specs.Reports.Reported.{HaveReports}
+use Rattle.cluster_facts.specs.Reports.Marked.{WaitersAreMarked}
 
 -- Who waits at a table has reached its era; its holders and the nodes with a right are living; a node in no view has no
 -- right; reports come first and once, and who waits before they are all there is of a node that is marked or new; and

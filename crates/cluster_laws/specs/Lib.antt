@@ -5,3 +5,7 @@ pub mod Laws
 pub mod Counting
 pub mod SoundRows
 pub mod ViewLaws
+pub mod Era
+pub mod Link
+pub mod Call
+pub mod Ask

@@ -11,11 +11,11 @@ use Rattle.node_rules.specs.Shelf.{readers_of}
 use Rattle.node_rules.specs.Words.{pick, among}
 use Rattle.node_rules.specs.Work.{Work, with_pool, work_of_home, with_home_work}
 use Rattle.home_laws.proofs.Tests.{number_equal}
-use Rattle.look_laws.specs.Buffers.{IsCleaned}
-use Rattle.look_laws.specs.Ends.{version_of_right, IsWithoutTx}
-use Rattle.look_laws.specs.Parts.{SameBesideCopies}
-use Rattle.look_laws.proofs.Alike.{beside_self, beside_then}
-use Rattle.look_laws.proofs.Copies.{cleaning_is_seen_law}
+use Rattle.page_laws.specs.Look.Buffers.{IsCleaned}
+use Rattle.page_laws.specs.Look.Ends.{version_of_right, IsWithoutTx}
+use Rattle.page_laws.specs.Look.Parts.{SameBesideCopies}
+use Rattle.page_laws.proofs.Look.Alike.{beside_self, beside_then}
+use Rattle.page_laws.proofs.Look.Copies.{cleaning_is_seen_law}
 use Rattle.end_relation.specs.Over.{changes}
 
 -- what is seen of a work where the changed copies of partitions that aren't served are clean

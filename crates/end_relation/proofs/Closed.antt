@@ -18,10 +18,10 @@ use Rattle.node_rules.specs.Work.{Work}
 use Rattle.node_laws.proofs.Lists.{all_weaker}
 use Rattle.home_laws.proofs.Tests.{tx_equal}
 use Rattle.cluster_rules.specs.Clusters.{Cluster, node_at, last_view, version_of_change}
-use Rattle.era_laws.specs.Eras.{era_at, owner_at, era_in}
-use Rattle.link_laws.specs.Coming.{coming}
-use Rattle.link_laws.specs.Orders.{AreOrdered}
-use Rattle.written_laws.specs.Written.{DiffersWithin}
+use Rattle.cluster_laws.specs.Era.Eras.{era_at, owner_at, era_in}
+use Rattle.cluster_laws.specs.Link.Coming.{coming}
+use Rattle.cluster_laws.specs.Link.Orders.{AreOrdered}
+use Rattle.page_laws.specs.Written.Written.{DiffersWithin}
 use Rattle.page_protocol.specs.Invariant.{ChangeIs, Inv}
 use Rattle.page_protocol.specs.State.{Home, Holding, Ended, Page, IsClosed}
 use Rattle.page_relation.specs.Homes.{StandsIn, KindIn, ImageIn, runs_in}
@@ -29,11 +29,11 @@ use Rattle.page_relation.specs.Looks.{shelf_of, shelf_in}
 use Rattle.page_relation.specs.Messages.{ChangeHas, WaitIs, SaysSo, AreOnce}
 use Rattle.page_relation.specs.Relation.{HomesAre, on_shelf, NodesAre, TablesAre, LinksAre, MessageIs, IsPageOf}
 use Rattle.page_relation.specs.Tables.{WaiterIs, IsServed, IsRebuilt, TableIs, TableIn, TableOf, ReachedIn, serves_in}
-use Rattle.loss_relation.proofs.Counting.{both_all, coming_eras}
-use Rattle.loss_relation.proofs.Lost.{HomeAfter, after_ended, asked_after}
-use Rattle.work_relation.specs.Landing.{land, Acts}
-use Rattle.work_relation.proofs.Framing.{reached_same, reached_landed}
-use Rattle.work_relation.proofs.Nodes.{of_node}
+use Rattle.page_relation.proofs.Loss.Counting.{both_all, coming_eras}
+use Rattle.page_relation.proofs.Loss.Lost.{HomeAfter, after_ended, asked_after}
+use Rattle.page_relation.specs.Work.Landing.{land, Acts}
+use Rattle.page_relation.proofs.Work.Framing.{reached_same, reached_landed}
+use Rattle.page_relation.proofs.Work.Nodes.{of_node}
 use Rattle.end_relation.proofs.Closing.{Part, with_part, IsOver, IsEndOf, not_this, stands_over, kinds_over, images_over, standing_over}
 
 module _ (blank : List ℕ) (c : Cluster) (e : Event) (n p : ℕ) (t : TxId) (s : NodeState) (x : Work) (a : Page) (k : Part) (acts : Acts c n) (up : node_at c n ≡ Some s)

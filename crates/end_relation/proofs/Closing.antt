@@ -12,18 +12,18 @@ use Rattle.node_rules.specs.Words.{pick, same_tx}
 use Rattle.node_rules.specs.Work.{Work}
 use Rattle.home_laws.proofs.Tests.{tx_equal}
 use Rattle.cluster_rules.specs.Clusters.{Cluster}
-use Rattle.link_laws.specs.Coming.{coming}
-use Rattle.look_laws.specs.Ends.{IsWithoutTx}
-use Rattle.moment_laws.specs.Looks.{accesses_in}
-use Rattle.storage_laws.specs.Looks.{IsStored}
+use Rattle.cluster_laws.specs.Link.Coming.{coming}
+use Rattle.page_laws.specs.Look.Ends.{IsWithoutTx}
+use Rattle.page_laws.specs.Moment.Looks.{accesses_in}
+use Rattle.page_laws.specs.Storage.Looks.{IsStored}
 use Rattle.page_protocol.specs.Bytes.{Copy, Ranges, Access}
 use Rattle.page_protocol.specs.State.{Home, Fresh, Asking, Holding, HoldingAsks, Reading, ReadingAsks, Ended, Gone, Page, IsClosed}
 use Rattle.page_relation.specs.Homes.{Stands, StandsIn, KindFits, KindIn, image_of, ImageIn, is_unborn, wait_on}
 use Rattle.page_relation.specs.Relation.{HistoryIs, CopiesAre}
-use Rattle.loss_relation.proofs.Lost.{HomeAfter}
-use Rattle.work_relation.specs.Landing.{land, trace_of, disk_of}
-use Rattle.work_relation.specs.Unseen.{SameStanding}
-use Rattle.work_relation.proofs.Nodes.{stands_as}
+use Rattle.page_relation.proofs.Loss.Lost.{HomeAfter}
+use Rattle.page_relation.specs.Work.Landing.{land, trace_of, disk_of}
+use Rattle.page_relation.specs.Work.Unseen.{SameStanding}
+use Rattle.page_relation.proofs.Work.Nodes.{stands_as}
 
 -- the parts of a page's state that the end of a transaction may change
 pub record Part : Type 0 where

@@ -10,17 +10,17 @@ use Rattle.rule_laws.proofs.Turns.{and_left}
 use Rattle.home_laws.proofs.Opens.{open_is_own}
 use Rattle.cluster_rules.specs.Clusters.{Cluster}
 use Rattle.cluster_laws.proofs.Steps.{up_is_member_law}
-use Rattle.moment_laws.specs.Looks.{accesses_in, HasPage, with_entry}
-use Rattle.moment_laws.specs.Machine.{CommitStep, AreCurrent}
-use Rattle.moment_laws.specs.Tells.{TellsCommit}
-use Rattle.moment_laws.proofs.AsSteps.{commits_are_committing_law}
-use Rattle.moment_laws.proofs.Committing.{pages_are_now_law, now_has_pages_law}
-use Rattle.moment_laws.proofs.Growing.{commit_tells_law}
+use Rattle.page_laws.specs.Moment.Looks.{accesses_in, HasPage, with_entry}
+use Rattle.page_laws.specs.Moment.Machine.{CommitStep, AreCurrent}
+use Rattle.page_laws.specs.Moment.Tells.{TellsCommit}
+use Rattle.page_laws.proofs.Moment.AsSteps.{commits_are_committing_law}
+use Rattle.page_laws.proofs.Moment.Committing.{pages_are_now_law, now_has_pages_law}
+use Rattle.page_laws.proofs.Moment.Growing.{commit_tells_law}
 use Rattle.page_protocol.specs.State.{Page, current}
 use Rattle.page_relation.specs.Together.{IsRelated}
-use Rattle.loss_relation.specs.Writes.{ScriptsFit}
-use Rattle.loss_relation.proofs.Halting.{may_end}
-use Rattle.work_relation.specs.Landing.{trace_of, disk_of}
+use Rattle.page_relation.specs.Loss.Writes.{ScriptsFit}
+use Rattle.page_relation.proofs.Loss.Halting.{may_end}
+use Rattle.page_relation.specs.Work.Landing.{trace_of, disk_of}
 use Rattle.end_relation.specs.Ends.{CanEnd, CommitLeaves, CommitIsKept}
 use Rattle.end_relation.specs.Over.{reply_of, over_of}
 use Rattle.end_relation.proofs.Events.{leaves, end_follows, over_it}

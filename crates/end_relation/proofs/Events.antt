@@ -30,13 +30,13 @@ use Rattle.cluster_rules.specs.Clusters.{Cluster, node_at, stop_at}
 use Rattle.cluster_rules.specs.ClusterStep.{left_of, step}
 use Rattle.cluster_laws.specs.Sound.{IsMember, IsCluster}
 use Rattle.cluster_laws.proofs.Steps.{up_is_member_law}
-use Rattle.link_laws.specs.Coming.{coming}
-use Rattle.era_laws.specs.Eras.{era_at}
-use Rattle.link_laws.specs.Orders.{is_report, how_many}
-use Rattle.moment_laws.specs.Looks.{accesses_in, HasPage, with_entry}
-use Rattle.moment_laws.specs.Tells.{TellsSame}
-use Rattle.storage_laws.specs.Looks.{IsStored}
-use Rattle.moment_laws.proofs.Growing.{nothing_tells_law}
+use Rattle.cluster_laws.specs.Link.Coming.{coming}
+use Rattle.cluster_laws.specs.Era.Eras.{era_at}
+use Rattle.cluster_laws.specs.Link.Orders.{is_report, how_many}
+use Rattle.page_laws.specs.Moment.Looks.{accesses_in, HasPage, with_entry}
+use Rattle.page_laws.specs.Moment.Tells.{TellsSame}
+use Rattle.page_laws.specs.Storage.Looks.{IsStored}
+use Rattle.page_laws.proofs.Moment.Growing.{nothing_tells_law}
 use Rattle.page_protocol.specs.Homes.{ending as giving_up}
 use Rattle.page_protocol.specs.State.{Page, current}
 use Rattle.page_protocol.specs.Steps.{Reached}
@@ -45,13 +45,13 @@ use Rattle.page_relation.specs.Homes.{wait_on}
 use Rattle.page_relation.specs.Messages.{is_release}
 use Rattle.page_relation.specs.Relation.{IsPageOf}
 use Rattle.page_relation.specs.Together.{IsRelated}
-use Rattle.work_relation.specs.Events.{IsEntered}
-use Rattle.work_relation.specs.Keeping.{IsWorkOf, Leads}
-use Rattle.work_relation.specs.Landing.{land, Acts, trace_of, disk_of}
-use Rattle.work_relation.specs.StepEnds.{start_of, Follows}
-use Rattle.work_relation.proofs.Ended.{end_is_landed_law}
-use Rattle.work_relation.proofs.Kept.{reached_on}
-use Rattle.work_relation.proofs.Started.{acting}
+use Rattle.page_relation.specs.Work.Events.{IsEntered}
+use Rattle.page_relation.specs.Work.Keeping.{IsWorkOf, Leads}
+use Rattle.page_relation.specs.Work.Landing.{land, Acts, trace_of, disk_of}
+use Rattle.page_relation.specs.Work.StepEnds.{start_of, Follows}
+use Rattle.page_relation.proofs.Work.Ended.{end_is_landed_law}
+use Rattle.page_relation.proofs.Work.Kept.{reached_on}
+use Rattle.page_relation.proofs.Work.Started.{acting}
 use Rattle.end_relation.specs.Ends.{CanEnd, LeavesEnd, AbortLeaves, AbortIsKept}
 use Rattle.end_relation.specs.Midway.{IsMidway}
 use Rattle.end_relation.specs.Over.{event_of, reply_of, closed_of, over_of}

@@ -18,7 +18,7 @@ use Rattle.cluster_laws.proofs.Steps.{up_is_member_law}
 use Rattle.home_laws.specs.Homes.{is_exclusive_lock}
 use Rattle.home_laws.proofs.Serials.{one_if}
 use Rattle.home_laws.proofs.Unpins.{times}
-use Rattle.era_laws.proofs.Lives.{stands}
+use Rattle.cluster_laws.proofs.Era.Lives.{stands}
 use Rattle.page_protocol.specs.Homes.{committing}
 use Rattle.pcl_base.specs.declared.tx.Mode.TheVariants.{Exclusive}
 use Rattle.page_protocol.specs.State.{Holding, Page}
@@ -26,14 +26,14 @@ use Rattle.page_relation.specs.Relation.{IsPageOf}
 use Rattle.page_relation.specs.Together.{IsRelated}
 use Rattle.redo_laws.specs.Laws.{HasLog}
 use Rattle.redo_laws.specs.Words.{IsWhole}
-use Rattle.storage_laws.specs.Looks.{IsStored, ranges_of_part, with_record}
-use Rattle.written_laws.specs.Record.{MayCommit}
-use Rattle.written_laws.proofs.Logging.{none_in, commit_is_logged_law, commit_is_elsewhere_law}
-use Rattle.written_laws.proofs.Looked.{times_look}
-use Rattle.loss_relation.specs.Writes.{ScriptsFit}
-use Rattle.loss_relation.proofs.Committing.{page_low, version_low}
-use Rattle.loss_relation.proofs.Halting.{MayEnd, may_end, log_whole, some_pages}
-use Rattle.work_relation.specs.Landing.{disk_of}
+use Rattle.page_laws.specs.Storage.Looks.{IsStored, ranges_of_part, with_record}
+use Rattle.page_laws.specs.Written.Record.{MayCommit}
+use Rattle.page_laws.proofs.Written.Logging.{none_in, commit_is_logged_law, commit_is_elsewhere_law}
+use Rattle.page_laws.proofs.Written.Looked.{times_look}
+use Rattle.page_relation.specs.Loss.Writes.{ScriptsFit}
+use Rattle.page_relation.proofs.Loss.Committing.{page_low, version_low}
+use Rattle.page_relation.proofs.Loss.Halting.{MayEnd, may_end, log_whole, some_pages}
+use Rattle.page_relation.specs.Work.Landing.{disk_of}
 use Rattle.end_relation.specs.Over.{over_of}
 use Rattle.end_relation.proofs.Overs.{MayClose, IsOverWork, over_is}
 use Rattle.end_relation.proofs.Passing.{Passes, filled, holds, next, none_later, commit_passes}

@@ -15,11 +15,11 @@ use Rattle.node_laws.proofs.Ends.{IsEnding}
 use Rattle.node_rules.specs.NodeStep.{do_event}
 use Rattle.cluster_rules.specs.Clusters.{Cluster}
 use Rattle.cluster_laws.proofs.Steps.{up_is_member_law}
-use Rattle.work_relation.specs.StepEnds.{start_of}
+use Rattle.page_relation.specs.Work.StepEnds.{start_of}
 use Rattle.page_relation.specs.Together.{IsRelated}
-use Rattle.work_relation.specs.Landing.{Acts}
-use Rattle.work_relation.proofs.Kept.{reached_on}
-use Rattle.work_relation.proofs.Started.{acting}
+use Rattle.page_relation.specs.Work.Landing.{Acts}
+use Rattle.page_relation.proofs.Work.Kept.{reached_on}
+use Rattle.page_relation.proofs.Work.Started.{acting}
 use Rattle.end_relation.specs.Ends.{CanEnd, AbortGoes, CommitGoes}
 use Rattle.end_relation.specs.Midway.{OwnEndsGo}
 use Rattle.end_relation.specs.Over.{event_of, over_of}

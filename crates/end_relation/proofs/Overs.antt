@@ -18,11 +18,11 @@ use Rattle.rule_laws.proofs.Turns.{and_left, and_right}
 use Rattle.home_laws.specs.Homes.{AreSerials, IsHome}
 use Rattle.home_laws.proofs.Opens.{open_is_own}
 use Rattle.home_laws.proofs.Serials.{serials_below}
-use Rattle.look_laws.specs.Ends.{IsWithoutTx, committed_copy}
-use Rattle.look_laws.proofs.Closing.{abort_is_seen_law, commit_is_seen_law}
+use Rattle.page_laws.specs.Look.Ends.{IsWithoutTx, committed_copy}
+use Rattle.page_laws.proofs.Look.Closing.{abort_is_seen_law, commit_is_seen_law}
 use Rattle.cluster_rules.specs.Clusters.{Cluster}
 use Rattle.page_relation.specs.Homes.{is_unborn}
-use Rattle.work_relation.specs.StepEnds.{start_of}
+use Rattle.page_relation.specs.Work.StepEnds.{start_of}
 use Rattle.end_relation.specs.Over.{changes, reply_of, closed_of, over_of}
 use Rattle.end_relation.proofs.Cleaned.{AreClean, all_clean, without_beside}
 use Rattle.end_relation.proofs.Closing.{IsOver}

@@ -21,7 +21,7 @@ use Rattle.page_protocol.specs.Steps.{Reached}
 use Rattle.page_protocol.proofs.Basics.{updn_other}
 use Rattle.page_protocol.proofs.Keeps.{reached_holds}
 use Rattle.page_relation.specs.Homes.{wait_on, stand_of, held_stand}
-use Rattle.work_relation.specs.Events.{IsEntered}
+use Rattle.page_relation.specs.Work.Events.{IsEntered}
 
 -- ---- who tells an end
 

@@ -34,8 +34,8 @@ use Rattle.page_protocol.proofs.Basics.{upd_same, updn_same}
 use Rattle.page_relation.specs.Homes.{wait_on, IsOpenAs, KindFits, KindIn}
 use Rattle.page_relation.specs.Messages.{ChangeHas}
 use Rattle.page_relation.specs.Relation.{IsPageOf}
-use Rattle.work_relation.specs.Events.{IsEntered}
-use Rattle.work_relation.specs.Landing.{Acts, disk_of}
+use Rattle.page_relation.specs.Work.Events.{IsEntered}
+use Rattle.page_relation.specs.Work.Landing.{Acts, disk_of}
 use Rattle.end_relation.specs.Owing.{OwesEnd, IsOwed, choose, IsAbsent, AreOwed}
 use Rattle.end_relation.proofs.Changed.{touches, written_is_lock, exclusive_some}
 use Rattle.end_relation.proofs.Copied.{slot_after, dirty_is}

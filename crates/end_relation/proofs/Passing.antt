@@ -23,7 +23,7 @@ use Rattle.cluster_laws.proofs.Steps.{up_is_member_law}
 use Rattle.home_laws.specs.Homes.{AreRuns, AreWrittenRuns, is_exclusive_lock}
 use Rattle.home_laws.proofs.Serials.{one_if}
 use Rattle.home_laws.proofs.Unpins.{times}
-use Rattle.moment_laws.specs.Machine.{CommitStep, wrote, read, untouched}
+use Rattle.page_laws.specs.Moment.Machine.{CommitStep, wrote, read, untouched}
 use Rattle.page_protocol.specs.Bytes.{Copy, Ranges, Access, writes, put_all}
 use Rattle.page_protocol.specs.Homes.{ending, committing_reads, committing}
 use Rattle.page_protocol.specs.Invariant.{Inv, SlotOk, ScriptOk}
@@ -33,13 +33,13 @@ use Rattle.page_protocol.proofs.Keeps.{reached_holds}
 use Rattle.page_relation.specs.Homes.{held_stand, IsOpenAs, Stands, StandsIn, is_unborn, wait_on, image_of, ImageIn, runs_in}
 use Rattle.page_relation.specs.Looks.{copy_in, slot_in, slot_of}
 use Rattle.page_relation.specs.Relation.{IsPageOf}
-use Rattle.storage_laws.specs.Looks.{IsStored, ranges_of_part}
-use Rattle.storage_laws.proofs.AsSteps.{records_are_old_law}
-use Rattle.written_laws.specs.Written.{DiffersWithin}
-use Rattle.written_laws.proofs.Differing.{logged_is_put_law}
-use Rattle.written_laws.proofs.Logging.{none_passes}
-use Rattle.written_laws.proofs.Looked.{times_look}
-use Rattle.loss_relation.proofs.Unwritten.{Unwritten, reached_unwritten}
+use Rattle.page_laws.specs.Storage.Looks.{IsStored, ranges_of_part}
+use Rattle.page_laws.proofs.Storage.AsSteps.{records_are_old_law}
+use Rattle.page_laws.specs.Written.Written.{DiffersWithin}
+use Rattle.page_laws.proofs.Written.Differing.{logged_is_put_law}
+use Rattle.page_laws.proofs.Written.Logging.{none_passes}
+use Rattle.page_laws.proofs.Written.Looked.{times_look}
+use Rattle.page_relation.proofs.Loss.Unwritten.{Unwritten, reached_unwritten}
 use Rattle.end_relation.proofs.Overs.{MayClose}
 
 -- What an end of t, which is a commit or not, is to page p, on which t has this lock.

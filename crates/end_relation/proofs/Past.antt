@@ -14,8 +14,8 @@ use Rattle.cluster_rules.specs.Clusters.{Cluster}
 use Rattle.cluster_laws.specs.Handed.{IsHanded}
 use Rattle.cluster_laws.specs.Sound.{IsCluster}
 use Rattle.cluster_laws.proofs.Steps.{up_is_member_law}
-use Rattle.link_laws.specs.Coming.{coming}
-use Rattle.moment_laws.specs.Looks.{accesses_in, HasPage}
+use Rattle.cluster_laws.specs.Link.Coming.{coming}
+use Rattle.page_laws.specs.Moment.Looks.{accesses_in, HasPage}
 use Rattle.page_protocol.specs.Bytes.{Ranges}
 use Rattle.page_protocol.specs.Homes.{ended, ending, committing_reads, committing}
 use Rattle.page_protocol.specs.State as machine
@@ -25,9 +25,9 @@ use Rattle.page_protocol.proofs.Basics.{by_tx_else, by_node, same_tx_refl, updn_
 use Rattle.page_protocol.proofs.Keeps.{reached_holds}
 use Rattle.page_protocol.proofs.Promises.{alone_law}
 use Rattle.page_relation.specs.Relation.{HistoryIs, CopiesAre, IsPageOf}
-use Rattle.storage_laws.specs.Looks.{IsStored}
-use Rattle.loss_relation.proofs.Lost.{IsClosing, HomeAfter}
-use Rattle.work_relation.specs.Landing.{land, trace_of, disk_of, Acts}
+use Rattle.page_laws.specs.Storage.Looks.{IsStored}
+use Rattle.page_relation.proofs.Loss.Lost.{IsClosing, HomeAfter}
+use Rattle.page_relation.specs.Work.Landing.{land, trace_of, disk_of, Acts}
 use Rattle.end_relation.specs.Over.{event_of}
 use Rattle.end_relation.proofs.Changed.{unwritten_copy}
 use Rattle.end_relation.proofs.Closed.{page_over}

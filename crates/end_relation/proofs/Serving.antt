@@ -4,7 +4,7 @@ use Rattle.std.proofs.lemmas.Bool.Decides.{nat_tests}
 use Rattle.node_rules.specs.LockTable.{LockTable}
 use Rattle.node_rules.specs.NodeState.{NodeState, partition, table_at, is_serving}
 use Rattle.cluster_rules.specs.Clusters.{Cluster, node_at}
-use Rattle.era_laws.specs.Eras.{era_in}
+use Rattle.cluster_laws.specs.Era.Eras.{era_in}
 use Rattle.page_protocol.specs.State.{Page}
 use Rattle.page_relation.specs.Relation.{IsPageOf}
 use Rattle.page_relation.specs.Tables.{TableIs, TableIn, TableOf, serves_in}

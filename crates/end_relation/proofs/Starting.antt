@@ -27,11 +27,11 @@ use Rattle.cluster_rules.specs.Clusters.{Cluster, node_at, view_of_epoch}
 use Rattle.cluster_laws.specs.Handed.{IsHanded}
 use Rattle.cluster_laws.specs.Sound.{IsMember, IsCluster}
 use Rattle.cluster_laws.proofs.Steps.{up_is_member_law}
-use Rattle.moment_laws.specs.Looks.{asked_last, with_entry}
-use Rattle.moment_laws.proofs.Growing.{nothing_tells_law, commit_tells_law}
+use Rattle.page_laws.specs.Moment.Looks.{asked_last, with_entry}
+use Rattle.page_laws.proofs.Moment.Growing.{nothing_tells_law, commit_tells_law}
 use Rattle.page_relation.specs.Together.{WaitsAsAsked}
-use Rattle.work_relation.specs.Landing.{trace_of}
-use Rattle.work_relation.specs.StepEnds.{start_of}
+use Rattle.page_relation.specs.Work.Landing.{trace_of}
+use Rattle.page_relation.specs.Work.StepEnds.{start_of}
 use Rattle.end_relation.specs.Midway.{IsMidway}
 use Rattle.end_relation.specs.Over.{event_of, reply_of, closed_of, over_of}
 use Rattle.end_relation.proofs.Overs.{MayClose, IsOverWork, end_calls}

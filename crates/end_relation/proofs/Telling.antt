@@ -22,23 +22,23 @@ use Rattle.home_laws.proofs.Tests.{tx_equal}
 use Rattle.cluster_rules.specs.Clusters.{Cluster, node_at, view_of_epoch, version_of_change}
 use Rattle.cluster_laws.specs.Sound.{IsMember}
 use Rattle.cluster_laws.proofs.Steps.{up_is_member_law}
-use Rattle.era_laws.specs.Eras.{era_at, era_in}
-use Rattle.link_laws.specs.Coming.{coming}
-use Rattle.link_laws.specs.EpochLaws.{IsInOrder}
-use Rattle.link_laws.specs.Orders.{how_many}
+use Rattle.cluster_laws.specs.Era.Eras.{era_at, era_in}
+use Rattle.cluster_laws.specs.Link.Coming.{coming}
+use Rattle.cluster_laws.specs.Link.EpochLaws.{IsInOrder}
+use Rattle.cluster_laws.specs.Link.Orders.{how_many}
 use Rattle.page_protocol.specs.State.{Ended, Page}
 use Rattle.page_protocol.specs.Steps.{here}
 use Rattle.page_relation.specs.Messages.{is_release}
 use Rattle.page_relation.specs.Tables.{ReachedBy, ReachedIn}
-use Rattle.work_relation.specs.Events.{IsEntered}
-use Rattle.work_relation.specs.Keeping.{IsWorkOf, Leads}
-use Rattle.work_relation.specs.Landing.{land, Acts}
-use Rattle.work_relation.specs.Sends.{MaySend}
-use Rattle.work_relation.specs.Unseen.{IsUnseen}
-use Rattle.work_relation.proofs.Comings.{coming_same}
-use Rattle.work_relation.proofs.Framing.{unseen_is_kept_law}
-use Rattle.work_relation.proofs.Landed.{landing_is_seen_law}
-use Rattle.work_relation.proofs.Sending.{nothing_is_ahead_law}
+use Rattle.page_relation.specs.Work.Events.{IsEntered}
+use Rattle.page_relation.specs.Work.Keeping.{IsWorkOf, Leads}
+use Rattle.page_relation.specs.Work.Landing.{land, Acts}
+use Rattle.page_relation.specs.Work.Sends.{MaySend}
+use Rattle.page_relation.specs.Work.Unseen.{IsUnseen}
+use Rattle.page_relation.proofs.Work.Comings.{coming_same}
+use Rattle.page_relation.proofs.Work.Framing.{unseen_is_kept_law}
+use Rattle.page_relation.proofs.Work.Landed.{landing_is_seen_law}
+use Rattle.page_relation.proofs.Work.Sending.{nothing_is_ahead_law}
 use Rattle.end_relation.specs.Midway.{IsMidway}
 use Rattle.end_relation.specs.Owing.{OwesEnd, IsOwed, choose, IsAbsent, AreOwed, SameComing}
 use Rattle.end_relation.proofs.Midway.{send_midway}

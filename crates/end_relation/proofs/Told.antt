@@ -17,20 +17,20 @@ use Rattle.node_laws.proofs.Bases.{base_of}
 use Rattle.node_laws.proofs.Ends.{IsEnding}
 use Rattle.node_laws.proofs.Works.{Base}
 use Rattle.cluster_rules.specs.Clusters.{Cluster, node_at}
-use Rattle.era_laws.specs.Eras.{era_at}
-use Rattle.link_laws.specs.Coming.{coming}
-use Rattle.link_laws.specs.EpochLaws.{IsInOrder}
-use Rattle.link_laws.specs.Orders.{is_report, how_many}
+use Rattle.cluster_laws.specs.Era.Eras.{era_at}
+use Rattle.cluster_laws.specs.Link.Coming.{coming}
+use Rattle.cluster_laws.specs.Link.EpochLaws.{IsInOrder}
+use Rattle.cluster_laws.specs.Link.Orders.{is_report, how_many}
 use Rattle.page_protocol.specs.State.{Page}
 use Rattle.page_protocol.specs.Steps.{here}
 use Rattle.page_relation.specs.Messages.{is_release}
-use Rattle.work_relation.specs.Events.{IsEntered}
-use Rattle.work_relation.specs.Keeping.{IsWorkOf, Leads, Keeps}
-use Rattle.work_relation.specs.Landing.{Acts}
-use Rattle.work_relation.proofs.Framing.{unseen_self}
-use Rattle.work_relation.proofs.Kept.{two_keep}
-use Rattle.work_relation.proofs.Quiet.{sends_elsewhere_law}
-use Rattle.work_relation.proofs.Sending.{send_is_kept_law}
+use Rattle.page_relation.specs.Work.Events.{IsEntered}
+use Rattle.page_relation.specs.Work.Keeping.{IsWorkOf, Leads, Keeps}
+use Rattle.page_relation.specs.Work.Landing.{Acts}
+use Rattle.page_relation.proofs.Work.Framing.{unseen_self}
+use Rattle.page_relation.proofs.Work.Kept.{two_keep}
+use Rattle.page_relation.proofs.Work.Quiet.{sends_elsewhere_law}
+use Rattle.page_relation.proofs.Work.Sending.{send_is_kept_law}
 use Rattle.end_relation.specs.Midway.{IsMidway, IsUntold, OwnEndsKeep}
 use Rattle.end_relation.specs.Owing.{OwesEnd, IsOwed, IsAbsent, SameComing}
 use Rattle.end_relation.proofs.Telling.{IsTelling, release, released, released_midway, may_release, unserved, unseen_tells, own_owed, done, stays, is_owned}

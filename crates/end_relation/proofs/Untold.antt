@@ -26,19 +26,19 @@ use Rattle.cluster_rules.specs.Clusters.{Cluster, node_at, view_of_epoch, versio
 use Rattle.cluster_rules.specs.Links.{link_at}
 use Rattle.cluster_laws.specs.Sound.{IsOnLink, IsMember}
 use Rattle.cluster_laws.proofs.Steps.{up_is_member_law}
-use Rattle.era_laws.specs.Eras.{era_at, owner_at}
-use Rattle.era_laws.proofs.Ages.{eras_have_one_owner_law}
-use Rattle.link_laws.specs.Coming.{speaks_of, is_coming, coming}
-use Rattle.link_laws.specs.EpochLaws.{IsInOrder}
-use Rattle.link_laws.specs.Orders.{is_report, how_many}
+use Rattle.cluster_laws.specs.Era.Eras.{era_at, owner_at}
+use Rattle.cluster_laws.proofs.Era.Ages.{eras_have_one_owner_law}
+use Rattle.cluster_laws.specs.Link.Coming.{speaks_of, is_coming, coming}
+use Rattle.cluster_laws.specs.Link.EpochLaws.{IsInOrder}
+use Rattle.cluster_laws.specs.Link.Orders.{is_report, how_many}
 use Rattle.page_protocol.specs.State.{Home, Fresh, Asking, Ended, Page}
 use Rattle.page_relation.specs.Homes.{held_stand, IsOpenAs}
 use Rattle.page_relation.specs.Messages.{SaysSo, is_release}
 use Rattle.page_relation.specs.Relation.{IsPageOf, MessageIs}
 use Rattle.page_relation.specs.Together.{PartiesAre, IsParty}
-use Rattle.loss_relation.proofs.Counting.{all_passing, both_all}
-use Rattle.work_relation.specs.Keeping.{IsWorkOf}
-use Rattle.work_relation.specs.Landing.{Acts}
+use Rattle.page_relation.proofs.Loss.Counting.{all_passing, both_all}
+use Rattle.page_relation.specs.Work.Keeping.{IsWorkOf}
+use Rattle.page_relation.specs.Work.Landing.{Acts}
 use Rattle.end_relation.specs.Midway.{IsMidway}
 use Rattle.end_relation.proofs.Telling.{reached_era, is_owned}
 

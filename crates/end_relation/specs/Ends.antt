@@ -14,10 +14,10 @@ use Rattle.cluster_laws.specs.Handed.{IsHanded}
 use Rattle.page_protocol.specs.State.{Page}
 use Rattle.page_protocol.specs.Steps.{Run}
 use Rattle.page_relation.specs.Together.{IsRelated}
-use Rattle.loss_relation.specs.Writes.{ScriptsFit}
-use Rattle.work_relation.specs.Events.{IsEntered}
-use Rattle.work_relation.specs.Keeping.{IsWorkOf}
-use Rattle.work_relation.specs.StepEnds.{start_of, Follows}
+use Rattle.page_relation.specs.Loss.Writes.{ScriptsFit}
+use Rattle.page_relation.specs.Work.Events.{IsEntered}
+use Rattle.page_relation.specs.Work.Keeping.{IsWorkOf}
+use Rattle.page_relation.specs.Work.StepEnds.{start_of, Follows}
 use Rattle.end_relation.specs.Midway.{IsMidway, OwnEndsKeep, OwnEndsGo}
 use Rattle.end_relation.specs.Over.{over_of}
 use Rattle.end_relation.specs.Owing.{AreOwed, SameComing}

@@ -11,11 +11,11 @@ use Rattle.node_laws.proofs.Works.{Base}
 use Rattle.cluster_rules.specs.Clusters.{Cluster}
 use Rattle.page_protocol.specs.State.{Page}
 use Rattle.page_protocol.specs.Steps.{Reached}
-use Rattle.work_relation.specs.Events.{IsEntered}
-use Rattle.work_relation.specs.Keeping.{IsWorkOf, Keeps}
-use Rattle.work_relation.specs.Unseen.{IsUnseen}
+use Rattle.page_relation.specs.Work.Events.{IsEntered}
+use Rattle.page_relation.specs.Work.Keeping.{IsWorkOf, Keeps}
+use Rattle.page_relation.specs.Work.Unseen.{IsUnseen}
 use Rattle.end_relation.specs.Owing.{OwesEnd}
-pub use Rattle.release_relation.specs.Owing.{IsUntold}
+pub use Rattle.end_relation.specs.Release.Owing.{IsUntold}
 pub use Rattle.settle_relation.specs.Midway.{IsMidway}
 
 -- what is known where the end of t is still to be told at the node's own table of page p

@@ -8,7 +8,7 @@ use Rattle.node_rules.specs.NodeState.{NodeState, NodeEvent, Commit, Abort}
 use Rattle.node_rules.specs.OwnerRule.{clean_unserved}
 use Rattle.node_rules.specs.Work.{HomeWork, Work, work_of_home, with_home_work, reply}
 use Rattle.cluster_rules.specs.Clusters.{Cluster}
-use Rattle.work_relation.specs.StepEnds.{start_of}
+use Rattle.page_relation.specs.Work.StepEnds.{start_of}
 
 -- the transaction is closed, copies of partitions that aren't served are clean, and the reply is given
 abbrev pub over : Reply → Closed → Work → Work

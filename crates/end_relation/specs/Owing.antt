@@ -9,11 +9,11 @@ use Rattle.pcl_base.specs.declared.tx.TxId.{TxId}
 use Rattle.node_rules.specs.EndRule.{Ending}
 use Rattle.node_rules.specs.Work.{Work}
 use Rattle.cluster_rules.specs.Clusters.{Cluster, version_of_change}
-use Rattle.link_laws.specs.Coming.{coming}
+use Rattle.cluster_laws.specs.Link.Coming.{coming}
 use Rattle.page_protocol.specs.State.{Ended, Page}
 use Rattle.page_relation.specs.Messages.{ChangeHas}
-use Rattle.work_relation.specs.Events.{IsEntered}
-use Rattle.work_relation.specs.Landing.{land}
+use Rattle.page_relation.specs.Work.Events.{IsEntered}
+use Rattle.page_relation.specs.Work.Landing.{land}
 
 -- The end of t is still to be told of a page, with this change, to the table of the era that its node has reached. The owner's
 -- dirty copy is newer than the entry only where it is the change of the own page that the node serves.

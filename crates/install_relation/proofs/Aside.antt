@@ -6,13 +6,13 @@ use Rattle.node_rules.specs.InstallRule.{get_partition, install_by, install_part
 use Rattle.node_rules.specs.NodeState.{NodeState, Install, number_of, partition}
 use Rattle.node_rules.specs.Work.{Work, Goes}
 use Rattle.cluster_rules.specs.Clusters.{Cluster}
-use Rattle.call_laws.specs.Calls.{BeginsWith, on_log}
-use Rattle.call_laws.proofs.Owned.{Calls}
-use Rattle.work_relation.proofs.Framing.{unseen_self, unseen_then}
+use Rattle.cluster_laws.specs.Call.Calls.{BeginsWith, on_log}
+use Rattle.cluster_laws.proofs.Call.Owned.{Calls}
+use Rattle.page_relation.proofs.Work.Framing.{unseen_self, unseen_then}
 use Rattle.settle_relation.specs.Midway.{IsMidway}
 use Rattle.settle_relation.proofs.Carrying.{on_goes}
-use Rattle.completion_relation.specs.Completed.{IsBeside}
-use Rattle.completion_relation.proofs.Beside.{complete_beside}
+use Rattle.report_relation.specs.Completion.Completed.{IsBeside}
+use Rattle.report_relation.proofs.Completion.Beside.{complete_beside}
 use Rattle.install_relation.specs.Installing.{IsInstall, numbers_at}
 use Rattle.install_relation.specs.Taking.{taken}
 use Rattle.install_relation.proofs.Beside.{keep_beside}

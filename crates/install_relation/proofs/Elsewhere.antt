@@ -18,14 +18,14 @@ use Rattle.node_rules.specs.Shelf.{right_on}
 use Rattle.node_rules.specs.Words.{pick}
 use Rattle.node_rules.specs.Work.{Work, with_home_work, with_node}
 use Rattle.cluster_rules.specs.Clusters.{Cluster}
-use Rattle.look_laws.specs.Ends.{HasGivenUp, HasKinds, IsTakenOver, version_of_right}
-use Rattle.look_laws.specs.Grants.{of_kind}
-use Rattle.look_laws.specs.Parts.{SameLife}
-use Rattle.look_laws.proofs.Turning.{giving_up_is_seen_law, taking_over_is_seen_law}
+use Rattle.page_laws.specs.Look.Ends.{HasGivenUp, HasKinds, IsTakenOver, version_of_right}
+use Rattle.page_laws.specs.Look.Grants.{of_kind}
+use Rattle.page_laws.specs.Look.Parts.{SameLife}
+use Rattle.page_laws.proofs.Look.Turning.{giving_up_is_seen_law, taking_over_is_seen_law}
 use Rattle.page_relation.specs.Homes.{wait_on}
-use Rattle.work_relation.specs.Unseen.{IsUnseen, SamePage, SameUse}
-use Rattle.work_relation.proofs.Framing.{unseen_self, unseen_then}
-use Rattle.work_relation.proofs.Quiet.{homes_elsewhere_law, sends_elsewhere_law, tables_elsewhere_law}
+use Rattle.page_relation.specs.Work.Unseen.{IsUnseen, SamePage, SameUse}
+use Rattle.page_relation.proofs.Work.Framing.{unseen_self, unseen_then}
+use Rattle.page_relation.proofs.Work.Quiet.{homes_elsewhere_law, sends_elsewhere_law, tables_elsewhere_law}
 use Rattle.install_relation.specs.Taking.{taken}
 use Rattle.install_relation.specs.Unseen.{TellingElsewhere, TakingElsewhere}
 

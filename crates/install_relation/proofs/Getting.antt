@@ -14,12 +14,12 @@ use Rattle.node_rules.specs.Work.{Work, with_node}
 use Rattle.node_laws.proofs.Lists.{all_weaker}
 use Rattle.cluster_rules.specs.Clusters.{Cluster}
 use Rattle.cluster_laws.proofs.Steps.{up_is_member_law}
-use Rattle.era_laws.specs.Eras.{era_at, era_in}
-use Rattle.era_laws.proofs.Ages.{era_is, eras_are_reached_law}
-use Rattle.era_laws.proofs.Epochs.{epoch_at}
-use Rattle.era_laws.proofs.Lives.{stands}
-use Rattle.look_laws.specs.Ends.{version_of_right}
-use Rattle.look_laws.proofs.Granting.{spending_is_seen_law}
+use Rattle.cluster_laws.specs.Era.Eras.{era_at, era_in}
+use Rattle.cluster_laws.proofs.Era.Ages.{era_is, eras_are_reached_law}
+use Rattle.cluster_laws.proofs.Era.Epochs.{epoch_at}
+use Rattle.cluster_laws.proofs.Era.Lives.{stands}
+use Rattle.page_laws.specs.Look.Ends.{version_of_right}
+use Rattle.page_laws.proofs.Look.Granting.{spending_is_seen_law}
 use Rattle.page_protocol.proofs.GivenBack.{in_time}
 use Rattle.page_protocol.proofs.Keeps.{and_then}
 use Rattle.page_protocol.specs.Authority.{spending}
@@ -29,21 +29,21 @@ use Rattle.page_protocol.specs.Steps.{Run, Reached, Step, here, then, reports}
 use Rattle.page_relation.specs.Looks.{shelf_in, shelf_of}
 use Rattle.page_relation.specs.Messages.{CountsFor}
 use Rattle.page_relation.specs.Relation.{on_shelf}
-use Rattle.work_relation.specs.Events.{IsEntered}
-use Rattle.work_relation.specs.Keeping.{IsWorkOf, Leads}
-use Rattle.work_relation.specs.Landing.{Acts}
-use Rattle.work_relation.specs.Spending.{spent}
-use Rattle.work_relation.proofs.Kept.{reached_on}
-use Rattle.work_relation.proofs.Nodes.{at_node}
-use Rattle.work_relation.proofs.Spending.{shelf_is}
-use Rattle.turn_relation.specs.Getting.{IsTurned}
-use Rattle.turn_relation.specs.Standing.{stood}
-use Rattle.turn_relation.specs.Telling.{GoesOn, reported_on}
-use Rattle.turn_relation.proofs.Bounding.{bounded, step_bounded, related_bounded, low_bounded}
-use Rattle.turn_relation.proofs.Gone.{KeepsPage}
-use Rattle.turn_relation.proofs.Spent.{right_here}
-use Rattle.turn_relation.proofs.Told.{reached_old, old_below}
-use Rattle.turn_relation.proofs.Turning.{turning_is_step_law, spent_standing}
+use Rattle.page_relation.specs.Work.Events.{IsEntered}
+use Rattle.page_relation.specs.Work.Keeping.{IsWorkOf, Leads}
+use Rattle.page_relation.specs.Work.Landing.{Acts}
+use Rattle.page_relation.specs.Work.Spending.{spent}
+use Rattle.page_relation.proofs.Work.Kept.{reached_on}
+use Rattle.page_relation.proofs.Work.Nodes.{at_node}
+use Rattle.page_relation.proofs.Work.Spending.{shelf_is}
+use Rattle.kept_relation.specs.Turn.Getting.{IsTurned}
+use Rattle.kept_relation.specs.Turn.Standing.{stood}
+use Rattle.kept_relation.specs.Turn.Telling.{GoesOn, reported_on}
+use Rattle.kept_relation.proofs.Turn.Bounding.{bounded, step_bounded, related_bounded, low_bounded}
+use Rattle.kept_relation.proofs.Turn.Gone.{KeepsPage}
+use Rattle.kept_relation.proofs.Turn.Spent.{right_here}
+use Rattle.kept_relation.proofs.Turn.Told.{reached_old, old_below}
+use Rattle.kept_relation.proofs.Turn.Turning.{turning_is_step_law, spent_standing}
 use Rattle.install_relation.specs.Knowing.{IsHeardAt}
 use Rattle.install_relation.specs.Taking.{owning, taken, MayTurnTo, Gets, GettingIsKept, GettingFirstIsKept}
 use Rattle.install_relation.proofs.Gone.{related_gone, run_gone}

@@ -12,8 +12,8 @@ use Rattle.node_rules.specs.OpenTxs.{is_open, held_by, pending_of}
 use Rattle.node_rules.specs.Work.{Work, with_node}
 use Rattle.cluster_rules.specs.Clusters.{Cluster, node_at, last_view}
 use Rattle.cluster_rules.specs.Links.{link_at}
-use Rattle.era_laws.specs.Eras.{era_at, era_in}
-use Rattle.link_laws.specs.EpochLaws.{IsInOrder}
+use Rattle.cluster_laws.specs.Era.Eras.{era_at, era_in}
+use Rattle.cluster_laws.specs.Link.EpochLaws.{IsInOrder}
 use Rattle.page_protocol.specs.Eras.{reporting}
 use Rattle.page_protocol.specs.State.{Page, Home, Holding, current, updn, version_of}
 use Rattle.page_protocol.specs.Steps.{Run}
@@ -22,21 +22,21 @@ use Rattle.page_relation.specs.Looks.{slot_in, slot_of, dirty_in, dirty_of, shel
 use Rattle.page_relation.specs.Relation.{CopiesAre, HomesAre, NodesAre, TablesAre, MessageIs, on_shelf}
 use Rattle.page_relation.specs.Tables.{TableIn, TableOf, ReachedIn, serves_in}
 use Rattle.page_relation.specs.Together.{IsParty}
-use Rattle.written_laws.specs.Written.{DiffersWithin}
-use Rattle.work_relation.specs.Keeping.{IsWorkOf}
-use Rattle.work_relation.specs.Landing.{land, Acts}
-use Rattle.work_relation.proofs.Framing.{history_stays_law, reached_landed}
+use Rattle.page_laws.specs.Written.Written.{DiffersWithin}
+use Rattle.page_relation.specs.Work.Keeping.{IsWorkOf}
+use Rattle.page_relation.specs.Work.Landing.{land, Acts}
+use Rattle.page_relation.proofs.Work.Framing.{history_stays_law, reached_landed}
 use Rattle.page_protocol.proofs.Keeps.{and_then}
-use Rattle.work_relation.proofs.Nodes.{of_node, at_node, at_other, changed_node, kept_node}
-use Rattle.turn_relation.specs.Telling.{homes_told, reported_on}
-use Rattle.turn_relation.proofs.Going.{era_stood}
-use Rattle.turn_relation.proofs.Gone.{KeepsPage}
-use Rattle.turn_relation.proofs.Knowing.{OnWay, NoneSent, known_coming}
-use Rattle.turn_relation.proofs.Naming.{names_of, names_own, unnamed_closed}
-use Rattle.turn_relation.proofs.Narrowing.{links_knowing}
-use Rattle.turn_relation.proofs.Reaching.{reached_here, reached_there}
-use Rattle.turn_relation.proofs.Retelling.{run_told, stands_retold, image_retold, holds_retold}
-use Rattle.turn_relation.proofs.Telling.{home_here, home_there, says_told, era_below}
+use Rattle.page_relation.proofs.Work.Nodes.{of_node, at_node, at_other, changed_node, kept_node}
+use Rattle.kept_relation.specs.Turn.Telling.{homes_told, reported_on}
+use Rattle.kept_relation.proofs.Turn.Going.{era_stood}
+use Rattle.kept_relation.proofs.Turn.Gone.{KeepsPage}
+use Rattle.kept_relation.proofs.Turn.Knowing.{OnWay, NoneSent, known_coming}
+use Rattle.kept_relation.proofs.Turn.Naming.{names_of, names_own, unnamed_closed}
+use Rattle.kept_relation.proofs.Turn.Narrowing.{links_knowing}
+use Rattle.kept_relation.proofs.Turn.Reaching.{reached_here, reached_there}
+use Rattle.kept_relation.proofs.Turn.Retelling.{run_told, stands_retold, image_retold, holds_retold}
+use Rattle.kept_relation.proofs.Turn.Telling.{home_here, home_there, says_told, era_below}
 use Rattle.install_relation.specs.Knowing.{IsHeardAt}
 use Rattle.install_relation.proofs.Heard.{table_of_heard}
 

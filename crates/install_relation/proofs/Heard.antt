@@ -9,14 +9,14 @@ use Rattle.node_rules.specs.NodeState.{NodeState, partition, table_at}
 use Rattle.node_rules.specs.Words as rules
 use Rattle.node_laws.proofs.Lists.{all_weaker}
 use Rattle.cluster_rules.specs.Clusters.{Cluster, node_at}
-use Rattle.era_laws.specs.Eras.{era_in}
+use Rattle.cluster_laws.specs.Era.Eras.{era_in}
 use Rattle.page_protocol.specs.Eras.{with_report}
 use Rattle.page_protocol.specs.State.{Page, updn}
 use Rattle.page_relation.specs.Tables.{WaiterIs, TableIs, TableIn, TableOf}
-use Rattle.turn_relation.specs.Telling.{homes_told, reported_on}
-use Rattle.turn_relation.proofs.Narrowing.{all_weaker_both}
-use Rattle.turn_relation.proofs.Reaching.{reached_up}
-use Rattle.turn_relation.proofs.Telling.{asked_on, listed_on}
+use Rattle.kept_relation.specs.Turn.Telling.{homes_told, reported_on}
+use Rattle.kept_relation.proofs.Turn.Narrowing.{all_weaker_both}
+use Rattle.kept_relation.proofs.Turn.Reaching.{reached_up}
+use Rattle.kept_relation.proofs.Turn.Telling.{asked_on, listed_on}
 use Rattle.install_relation.specs.Knowing.{IsHeardAt}
 
 module _ (a : Page) (n next : ℕ) (low : a.era ≤ a.reached n) (below : a.reached n < next) where

@@ -15,10 +15,10 @@ use Rattle.node_rules.specs.Work.{Work, with_node, work_of_home}
 use Rattle.node_laws.proofs.Installs.{at, upto}
 use Rattle.node_laws.proofs.Works.{Base, IsGood}
 use Rattle.cluster_rules.specs.Clusters.{Cluster}
-use Rattle.look_laws.proofs.Turning.{giving_up_is_seen_law, taking_over_is_seen_law}
-use Rattle.moment_laws.specs.Looks.{asked_last}
-use Rattle.work_relation.specs.Landing.{trace_of}
-use Rattle.work_relation.specs.Letting.{CalledBy}
+use Rattle.page_laws.proofs.Look.Turning.{giving_up_is_seen_law, taking_over_is_seen_law}
+use Rattle.page_laws.specs.Moment.Looks.{asked_last}
+use Rattle.page_relation.specs.Work.Landing.{trace_of}
+use Rattle.page_relation.specs.Work.Letting.{CalledBy}
 use Rattle.settle_relation.specs.Midway.{IsMidway}
 use Rattle.settle_relation.proofs.Midway.{StillWaits, SameAsked, send_asks, still_same}
 use Rattle.install_relation.specs.Installing.{IsInstall, numbers, numbers_at}

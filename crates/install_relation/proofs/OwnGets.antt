@@ -10,16 +10,16 @@ use Rattle.cluster_rules.specs.Clusters.{Cluster}
 use Rattle.page_protocol.specs.Eras.{joining}
 use Rattle.page_protocol.specs.State.{Page}
 use Rattle.page_protocol.specs.Steps.{Reached, here, then}
-use Rattle.work_relation.specs.Events.{IsEntered}
-use Rattle.work_relation.specs.Keeping.{IsWorkOf, Leads}
-use Rattle.work_relation.proofs.Kept.{leads_on, reached_on}
+use Rattle.page_relation.specs.Work.Events.{IsEntered}
+use Rattle.page_relation.specs.Work.Keeping.{IsWorkOf, Leads}
+use Rattle.page_relation.proofs.Work.Kept.{leads_on, reached_on}
 use Rattle.settle_relation.specs.Midway.{IsMidway}
 use Rattle.report_relation.specs.Completing.{IsReady}
-use Rattle.completion_relation.specs.Completed.{CanBeWhole, MayBeWhole, Owns}
-use Rattle.completion_relation.proofs.Completed.{complete_keeps_law}
-use Rattle.turn_relation.specs.Standing.{as_before}
-use Rattle.turn_relation.proofs.Going.{view_is_kept_law}
-use Rattle.turn_relation.proofs.Joining.{join_is_kept_law}
+use Rattle.report_relation.specs.Completion.Completed.{CanBeWhole, MayBeWhole, Owns}
+use Rattle.report_relation.proofs.Completion.Completed.{complete_keeps_law}
+use Rattle.kept_relation.specs.Turn.Standing.{as_before}
+use Rattle.kept_relation.proofs.Turn.Going.{view_is_kept_law}
+use Rattle.kept_relation.proofs.Turn.Joining.{join_is_kept_law}
 use Rattle.install_relation.specs.Installing.{IsWaiting, numbers_at}
 use Rattle.install_relation.specs.Taking.{taken}
 use Rattle.install_relation.specs.Whole.{IsInstallOf, IsTurned, MayOwn, OwnTurnIsKept}

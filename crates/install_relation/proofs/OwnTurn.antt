@@ -16,19 +16,19 @@ use Rattle.node_rules.specs.Shelf.{Right, right_on}
 use Rattle.node_rules.specs.Words.{pick}
 use Rattle.node_rules.specs.Work.{Work, reply, with_node}
 use Rattle.cluster_rules.specs.Clusters.{Cluster}
-use Rattle.link_laws.specs.Coming.{speaks_of, sent_to}
-use Rattle.look_laws.specs.Ends.{version_of_right}
+use Rattle.cluster_laws.specs.Link.Coming.{speaks_of, sent_to}
+use Rattle.page_laws.specs.Look.Ends.{version_of_right}
 use Rattle.page_protocol.specs.State.{Page}
-use Rattle.work_relation.specs.Keeping.{IsWorkOf}
-use Rattle.work_relation.specs.Landing.{Acts}
-use Rattle.work_relation.specs.StepEnds.{start_of}
-use Rattle.work_relation.specs.Unseen.{speaks}
-use Rattle.work_relation.proofs.Framing.{unseen_is_kept_law}
-use Rattle.work_relation.proofs.Started.{start_is_related_law}
+use Rattle.page_relation.specs.Work.Keeping.{IsWorkOf}
+use Rattle.page_relation.specs.Work.Landing.{Acts}
+use Rattle.page_relation.specs.Work.StepEnds.{start_of}
+use Rattle.page_relation.specs.Work.Unseen.{speaks}
+use Rattle.page_relation.proofs.Work.Framing.{unseen_is_kept_law}
+use Rattle.page_relation.proofs.Work.Started.{start_is_related_law}
 use Rattle.settle_relation.specs.Midway.{IsMidway}
-use Rattle.turn_relation.specs.Standing.{HasNext, as_before}
-use Rattle.turn_relation.specs.Telling.{GoesOn, Begins, HasNone, HasTable}
-use Rattle.turn_relation.proofs.Unborn.{none_open}
+use Rattle.kept_relation.specs.Turn.Standing.{HasNext, as_before}
+use Rattle.kept_relation.specs.Turn.Telling.{GoesOn, Begins, HasNone, HasTable}
+use Rattle.kept_relation.proofs.Turn.Unborn.{none_open}
 use Rattle.install_relation.specs.Installing.{IsWaiting, numbers_at}
 use Rattle.install_relation.specs.Taking.{MayTurnTo, Gets}
 use Rattle.install_relation.specs.Unseen.{KeepsBirth, entered}

@@ -7,13 +7,13 @@ use Rattle.pcl_base.specs.declared.lock.Kind.TheVariants as kind
 use Rattle.pcl_base.specs.declared.tx.Mode.{Mode}
 use Rattle.pcl_base.specs.declared.tx.Mode.TheVariants.{Shared, Exclusive}
 use Rattle.home_laws.specs.Homes.{is_right_lock}
-use Rattle.look_laws.specs.Grants.{of_kind}
+use Rattle.page_laws.specs.Look.Grants.{of_kind}
 use Rattle.page_protocol.specs.Eras.{reported}
 use Rattle.page_protocol.specs.State.{Home, Fresh, Asking, Holding, HoldingAsks, Reading, ReadingAsks, Ended, Gone, IsClosed}
 use Rattle.page_relation.specs.Homes.{Stands, KindFits, stand_of, held_stand}
-use Rattle.turn_relation.specs.Listing.{listed_mode}
-use Rattle.turn_relation.proofs.Registered.{registered_lock}
-use Rattle.turn_relation.proofs.Unborn.{less_unborn, stands_closed}
+use Rattle.kept_relation.specs.Turn.Listing.{listed_mode}
+use Rattle.kept_relation.proofs.Turn.Registered.{registered_lock}
+use Rattle.kept_relation.proofs.Turn.Unborn.{less_unborn, stands_closed}
 
 -- a lock that isn't under a right stands as an own one
 pub own_stand : (m : Mode) (k : Kind) (w : Option Mode) → is_right_lock (Some (record { page = 0; mode = m; kind = k })) ≡ false → held_stand m k w ≡ held_stand m kind.Own w

@@ -12,19 +12,19 @@ use Rattle.node_rules.specs.Words.{among, pick}
 use Rattle.node_rules.specs.Work.{Work, with_node}
 use Rattle.home_laws.specs.Homes.{IsHome, is_right_lock}
 use Rattle.cluster_rules.specs.Clusters.{Cluster}
-use Rattle.era_laws.proofs.Counted.{counts_stay_law}
-use Rattle.look_laws.specs.Grants.{IsSpent, of_kind}
-use Rattle.look_laws.proofs.Granting.{spending_is_seen_law}
+use Rattle.cluster_laws.proofs.Era.Counted.{counts_stay_law}
+use Rattle.page_laws.specs.Look.Grants.{IsSpent, of_kind}
+use Rattle.page_laws.proofs.Look.Granting.{spending_is_seen_law}
 use Rattle.page_relation.specs.Homes.{is_unborn}
-use Rattle.work_relation.specs.Landing.{Acts}
-use Rattle.work_relation.specs.Spending.{spent}
-use Rattle.work_relation.proofs.Nodes.{unborn_same}
-use Rattle.turn_relation.specs.Standing.{HasNext, stood}
-use Rattle.turn_relation.specs.Telling.{Begins}
-use Rattle.turn_relation.proofs.Narrowing.{counts_before, counts_unborn}
-use Rattle.turn_relation.proofs.Registered.{registered_lock}
-use Rattle.turn_relation.proofs.Turning.{own_page, spent_standing}
-use Rattle.turn_relation.proofs.Unborn.{none_open, unborn_before}
+use Rattle.page_relation.specs.Work.Landing.{Acts}
+use Rattle.page_relation.specs.Work.Spending.{spent}
+use Rattle.page_relation.proofs.Work.Nodes.{unborn_same}
+use Rattle.kept_relation.specs.Turn.Standing.{HasNext, stood}
+use Rattle.kept_relation.specs.Turn.Telling.{Begins}
+use Rattle.kept_relation.proofs.Turn.Narrowing.{counts_before, counts_unborn}
+use Rattle.kept_relation.proofs.Turn.Registered.{registered_lock}
+use Rattle.kept_relation.proofs.Turn.Turning.{own_page, spent_standing}
+use Rattle.kept_relation.proofs.Turn.Unborn.{none_open, unborn_before}
 use Rattle.install_relation.proofs.Owning.{own_registered, none_under}
 use Rattle.install_relation.proofs.Taking.{IsReady}
 

@@ -11,16 +11,16 @@ use Rattle.page_protocol.proofs.Keeps.{and_then}
 use Rattle.page_protocol.specs.Eras.{falling}
 use Rattle.page_protocol.specs.State.{Page}
 use Rattle.page_protocol.specs.Steps.{here, then, falls, reports}
-use Rattle.work_relation.specs.Events.{IsEntered}
-use Rattle.work_relation.specs.Keeping.{IsWorkOf, Leads}
-use Rattle.work_relation.specs.Landing.{Acts}
-use Rattle.work_relation.proofs.Kept.{reached_on}
-use Rattle.turn_relation.specs.Standing.{stood}
-use Rattle.turn_relation.specs.Telling.{GoesOn, HasTable}
-use Rattle.turn_relation.proofs.Falling.{GivesUp, fallen, given}
-use Rattle.turn_relation.proofs.Gone.{KeepsPage}
-use Rattle.turn_relation.proofs.Leaving.{between, gives_up, has_after, keeps_owned}
-use Rattle.turn_relation.proofs.Told.{reached_old, old_below}
+use Rattle.page_relation.specs.Work.Events.{IsEntered}
+use Rattle.page_relation.specs.Work.Keeping.{IsWorkOf, Leads}
+use Rattle.page_relation.specs.Work.Landing.{Acts}
+use Rattle.page_relation.proofs.Work.Kept.{reached_on}
+use Rattle.kept_relation.specs.Turn.Standing.{stood}
+use Rattle.kept_relation.specs.Turn.Telling.{GoesOn, HasTable}
+use Rattle.kept_relation.proofs.Turn.Falling.{GivesUp, fallen, given}
+use Rattle.kept_relation.proofs.Turn.Gone.{KeepsPage}
+use Rattle.kept_relation.proofs.Turn.Leaving.{between, gives_up, has_after, keeps_owned}
+use Rattle.kept_relation.proofs.Turn.Told.{reached_old, old_below}
 use Rattle.install_relation.specs.Knowing.{IsHeardAt}
 use Rattle.install_relation.specs.Taking.{MayTurnTo}
 use Rattle.install_relation.specs.Telling.{TellsAsOwner}

@@ -10,9 +10,9 @@ use Rattle.node_rules.specs.NodeState.{Outgoing}
 use Rattle.node_rules.specs.OpenTxs.{OpenTx, OpenTxs, is_open, is_own, name_of, with_serial}
 use Rattle.node_rules.specs.Shelf.{Right}
 use Rattle.node_rules.specs.Words as rules
-use Rattle.link_laws.specs.Coming.{speaks_of, sent_to}
-use Rattle.look_laws.specs.Ends.{version_of_right}
-use Rattle.work_relation.specs.Unseen.{speaks}
+use Rattle.cluster_laws.specs.Link.Coming.{speaks_of, sent_to}
+use Rattle.page_laws.specs.Look.Ends.{version_of_right}
+use Rattle.page_relation.specs.Work.Unseen.{speaks}
 
 -- ---- nothing that speaks of the page was sent
 

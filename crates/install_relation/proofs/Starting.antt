@@ -7,24 +7,24 @@ use Rattle.node_rules.specs.LockTable.{LockTable}
 use Rattle.node_rules.specs.NodeState.{NodeState, partition, is_serving, number_of}
 use Rattle.node_rules.specs.Work.{Work, with_node}
 use Rattle.cluster_rules.specs.Clusters.{Cluster}
-use Rattle.era_laws.specs.Eras.{era_at}
-use Rattle.era_laws.proofs.Ages.{eras_are_reached_law}
-use Rattle.era_laws.proofs.Epochs.{epoch_at}
+use Rattle.cluster_laws.specs.Era.Eras.{era_at}
+use Rattle.cluster_laws.proofs.Era.Ages.{eras_are_reached_law}
+use Rattle.cluster_laws.proofs.Era.Epochs.{epoch_at}
 use Rattle.page_protocol.proofs.Keeps.{and_then}
 use Rattle.page_protocol.specs.Eras.{joining}
 use Rattle.page_protocol.specs.State.{Page}
 use Rattle.page_protocol.specs.Steps.{here, then, reports}
 use Rattle.page_relation.specs.Tables.{ReachedBy}
-use Rattle.work_relation.specs.Events.{IsEntered}
-use Rattle.work_relation.specs.Keeping.{IsWorkOf, Leads}
-use Rattle.work_relation.specs.Landing.{Acts}
-use Rattle.work_relation.proofs.Kept.{reached_on}
-use Rattle.turn_relation.specs.Standing.{stood, as_before}
-use Rattle.turn_relation.specs.Telling.{Begins}
-use Rattle.turn_relation.proofs.Bounding.{bounded, limits, step_bounded, related_bounded, low_bounded}
-use Rattle.turn_relation.proofs.Gone.{KeepsPage}
-use Rattle.turn_relation.proofs.Joining.{stands_on, kind_on}
-use Rattle.turn_relation.proofs.Narrowing.{counts_unborn}
+use Rattle.page_relation.specs.Work.Events.{IsEntered}
+use Rattle.page_relation.specs.Work.Keeping.{IsWorkOf, Leads}
+use Rattle.page_relation.specs.Work.Landing.{Acts}
+use Rattle.page_relation.proofs.Work.Kept.{reached_on}
+use Rattle.kept_relation.specs.Turn.Standing.{stood, as_before}
+use Rattle.kept_relation.specs.Turn.Telling.{Begins}
+use Rattle.kept_relation.proofs.Turn.Bounding.{bounded, limits, step_bounded, related_bounded, low_bounded}
+use Rattle.kept_relation.proofs.Turn.Gone.{KeepsPage}
+use Rattle.kept_relation.proofs.Turn.Joining.{stands_on, kind_on}
+use Rattle.kept_relation.proofs.Turn.Narrowing.{counts_unborn}
 use Rattle.install_relation.specs.Knowing.{IsHeardAt}
 use Rattle.install_relation.specs.Taking.{MayTurnTo}
 use Rattle.install_relation.specs.Telling.{TellsFirst}

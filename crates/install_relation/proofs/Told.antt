@@ -15,30 +15,30 @@ use Rattle.node_laws.proofs.Lists.{all_weaker}
 use Rattle.cluster_rules.specs.Clusters.{Cluster, node_at}
 use Rattle.cluster_rules.specs.Links.{link_at}
 use Rattle.cluster_laws.proofs.Steps.{up_is_member_law}
-use Rattle.era_laws.specs.Eras.{era_at}
-use Rattle.era_laws.proofs.Ages.{era_is}
-use Rattle.era_laws.proofs.Lives.{stands}
+use Rattle.cluster_laws.specs.Era.Eras.{era_at}
+use Rattle.cluster_laws.proofs.Era.Ages.{era_is}
+use Rattle.cluster_laws.proofs.Era.Lives.{stands}
 use Rattle.home_laws.specs.Homes.{IsHome}
-use Rattle.link_laws.specs.Coming.{coming}
-use Rattle.link_laws.specs.EpochLaws.{IsInOrder}
+use Rattle.cluster_laws.specs.Link.Coming.{coming}
+use Rattle.cluster_laws.specs.Link.EpochLaws.{IsInOrder}
 use Rattle.page_protocol.proofs.Keeps.{reached_holds}
 use Rattle.page_protocol.specs.State.{Page}
 use Rattle.page_protocol.specs.Steps.{Reached, Run, here, then, reports}
 use Rattle.page_relation.specs.Homes.{KindFits, KindIn}
 use Rattle.page_relation.specs.Messages.{ReportIs}
 use Rattle.page_relation.specs.Together.{IsParty}
-use Rattle.work_relation.specs.Events.{IsEntered}
-use Rattle.work_relation.specs.Keeping.{IsWorkOf, Leads}
-use Rattle.work_relation.specs.Landing.{land, Acts}
-use Rattle.work_relation.proofs.Nodes.{at_node}
-use Rattle.turn_relation.specs.Standing.{HasNext, stood}
-use Rattle.turn_relation.specs.Telling.{reported_on}
-use Rattle.turn_relation.proofs.Gone.{KeepsPage}
-use Rattle.turn_relation.proofs.Knowing.{OnWay, NoneSent, known_coming}
-use Rattle.turn_relation.proofs.Reporting.{MayReport, report_is_kept}
-use Rattle.turn_relation.proofs.Said.{report_says}
-use Rattle.turn_relation.proofs.Staying.{keeps_unowned}
-use Rattle.turn_relation.proofs.Told.{reached_old, old_below}
+use Rattle.page_relation.specs.Work.Events.{IsEntered}
+use Rattle.page_relation.specs.Work.Keeping.{IsWorkOf, Leads}
+use Rattle.page_relation.specs.Work.Landing.{land, Acts}
+use Rattle.page_relation.proofs.Work.Nodes.{at_node}
+use Rattle.kept_relation.specs.Turn.Standing.{HasNext, stood}
+use Rattle.kept_relation.specs.Turn.Telling.{reported_on}
+use Rattle.kept_relation.proofs.Turn.Gone.{KeepsPage}
+use Rattle.kept_relation.proofs.Turn.Knowing.{OnWay, NoneSent, known_coming}
+use Rattle.kept_relation.proofs.Turn.Reporting.{MayReport, report_is_kept}
+use Rattle.kept_relation.proofs.Turn.Said.{report_says}
+use Rattle.kept_relation.proofs.Turn.Staying.{keeps_unowned}
+use Rattle.kept_relation.proofs.Turn.Told.{reached_old, old_below}
 use Rattle.page_protocol.proofs.GivenBack.{in_time}
 use Rattle.page_protocol.specs.Eras.{reporting}
 use Rattle.install_relation.specs.Knowing.{IsHeardAt}

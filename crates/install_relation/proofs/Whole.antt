@@ -12,10 +12,10 @@ use Rattle.node_rules.specs.Work.{Work, Outcome, Goes, Differs, and_then, for_ea
 use Rattle.cluster_rules.specs.Clusters.{Cluster}
 use Rattle.page_protocol.specs.State.{Page}
 use Rattle.page_relation.specs.Relation.{IsPageOf}
-use Rattle.work_relation.specs.Keeping.{Leads}
-use Rattle.work_relation.specs.StepEnds.{start_of}
-use Rattle.work_relation.proofs.Ended.{end_is_landed_law}
-use Rattle.work_relation.proofs.Framing.{unseen_is_kept_law, unseen_self, unseen_then}
+use Rattle.page_relation.specs.Work.Keeping.{Leads}
+use Rattle.page_relation.specs.Work.StepEnds.{start_of}
+use Rattle.page_relation.proofs.Work.Ended.{end_is_landed_law}
+use Rattle.page_relation.proofs.Work.Framing.{unseen_is_kept_law, unseen_self, unseen_then}
 use Rattle.install_relation.specs.Installing.{IsWaiting}
 use Rattle.install_relation.specs.Unseen.{entered}
 use Rattle.install_relation.specs.Whole.{IsInstallOf, IsTurned, MayOwn, InstallIsKept, OthersAreUnseen}

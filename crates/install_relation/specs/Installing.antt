@@ -13,10 +13,10 @@ use Rattle.node_laws.proofs.Works.{Base}
 use Rattle.cluster_rules.specs.Clusters.{Cluster, node_at}
 use Rattle.cluster_laws.specs.Handed.{IsHanded}
 use Rattle.cluster_laws.specs.Sound.{IsCluster}
-use Rattle.call_laws.specs.Calls.{BeginsWith, on_log}
+use Rattle.cluster_laws.specs.Call.Calls.{BeginsWith, on_log}
 use Rattle.page_relation.specs.Together.{WaitsAsAsked}
-use Rattle.work_relation.specs.StepEnds.{start_of}
-use Rattle.work_relation.specs.Unseen.{IsUnseen}
+use Rattle.page_relation.specs.Work.StepEnds.{start_of}
+use Rattle.page_relation.specs.Work.Unseen.{IsUnseen}
 use Rattle.settle_relation.specs.Midway.{IsMidway}
 use Rattle.install_relation.specs.Unseen.{entered}
 

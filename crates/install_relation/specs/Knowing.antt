@@ -5,7 +5,7 @@ use Rattle.pcl_base.specs.declared.lock.Waiter.{Waiter}
 use Rattle.node_rules.specs.LockTable.{LockTable, entry_at}
 use Rattle.node_rules.specs.NodeState.{NodeState, partition, table_at}
 use Rattle.cluster_rules.specs.Clusters.{Cluster, node_at}
-use Rattle.era_laws.specs.Eras.{era_in}
+use Rattle.cluster_laws.specs.Era.Eras.{era_in}
 
 -- Who waits at a table and is of the node, waits in no later era than this.
 abbrev pub IsHeardAt : Cluster → ℕ → ℕ → ℕ → Type 0

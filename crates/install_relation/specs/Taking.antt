@@ -9,19 +9,19 @@ use Rattle.node_rules.specs.Shelf.{right_on}
 use Rattle.node_rules.specs.Work.{Work, with_node}
 use Rattle.cluster_rules.specs.Clusters.{Cluster}
 use Rattle.cluster_rules.specs.Links.{link_at}
-use Rattle.era_laws.specs.Eras.{era_at}
+use Rattle.cluster_laws.specs.Era.Eras.{era_at}
 use Rattle.home_laws.specs.Homes.{IsHome}
-use Rattle.link_laws.specs.Coming.{speaks_of}
-use Rattle.link_laws.specs.EpochLaws.{IsInOrder}
+use Rattle.cluster_laws.specs.Link.Coming.{speaks_of}
+use Rattle.cluster_laws.specs.Link.EpochLaws.{IsInOrder}
 use Rattle.page_protocol.specs.Authority.{HaveUsed}
 use Rattle.page_protocol.specs.State.{Page}
 use Rattle.page_protocol.specs.Steps.{Reached}
 use Rattle.page_relation.specs.Together.{IsParty}
-use Rattle.work_relation.specs.Events.{IsEntered}
-use Rattle.work_relation.specs.Keeping.{IsWorkOf, Leads}
-use Rattle.work_relation.specs.Landing.{Acts}
-use Rattle.turn_relation.specs.Standing.{HasNext, as_before}
-use Rattle.turn_relation.specs.Telling.{GoesOn, Begins}
+use Rattle.page_relation.specs.Work.Events.{IsEntered}
+use Rattle.page_relation.specs.Work.Keeping.{IsWorkOf, Leads}
+use Rattle.page_relation.specs.Work.Landing.{Acts}
+use Rattle.kept_relation.specs.Turn.Standing.{HasNext, as_before}
+use Rattle.kept_relation.specs.Turn.Telling.{GoesOn, Begins}
 use Rattle.install_relation.specs.Knowing.{IsHeardAt}
 
 -- the node's rights and locks of a partition become own locks

@@ -7,11 +7,11 @@ use Rattle.node_rules.specs.NodeState.{NodeState, partition}
 use Rattle.node_rules.specs.Work.{Work}
 use Rattle.cluster_rules.specs.Clusters.{Cluster}
 use Rattle.page_protocol.specs.State.{Page}
-use Rattle.work_relation.specs.Events.{IsEntered}
-use Rattle.work_relation.specs.Keeping.{IsWorkOf, Leads}
-use Rattle.work_relation.specs.Landing.{Acts}
-use Rattle.turn_relation.specs.Standing.{as_before}
-use Rattle.turn_relation.specs.Telling.{GoesOn, Begins, HasNone, HasTable}
+use Rattle.page_relation.specs.Work.Events.{IsEntered}
+use Rattle.page_relation.specs.Work.Keeping.{IsWorkOf, Leads}
+use Rattle.page_relation.specs.Work.Landing.{Acts}
+use Rattle.kept_relation.specs.Turn.Standing.{as_before}
+use Rattle.kept_relation.specs.Turn.Telling.{GoesOn, Begins, HasNone, HasTable}
 use Rattle.install_relation.specs.Taking.{MayTurnTo}
 
 -- One that didn't own it before.

@@ -8,9 +8,9 @@ use Rattle.node_rules.specs.InstallRule.{tell_new_owner, begin_life, in_view}
 use Rattle.node_rules.specs.NodeState.{NodeState, number_of, partition}
 use Rattle.node_rules.specs.Work.{Work, reply, with_node}
 use Rattle.cluster_rules.specs.Clusters.{Cluster}
-use Rattle.work_relation.specs.StepEnds.{start_of}
-use Rattle.work_relation.specs.Unseen.{IsUnseen}
-use Rattle.turn_relation.specs.Standing.{as_before}
+use Rattle.page_relation.specs.Work.StepEnds.{start_of}
+use Rattle.page_relation.specs.Work.Unseen.{IsUnseen}
+use Rattle.kept_relation.specs.Turn.Standing.{as_before}
 use Rattle.install_relation.specs.Taking.{taken}
 
 -- a node that was born in the view that it had, or that has no open transaction

@@ -11,20 +11,20 @@ use Rattle.node_rules.specs.Work.{Work, Goes}
 use Rattle.cluster_rules.specs.Clusters.{Cluster, stop_at}
 use Rattle.cluster_rules.specs.ClusterStep.{left_of, step}
 use Rattle.cluster_rules.specs.Links.{link_at}
-use Rattle.era_laws.specs.Eras.{era_at}
-use Rattle.link_laws.specs.EpochLaws.{IsInOrder}
+use Rattle.cluster_laws.specs.Era.Eras.{era_at}
+use Rattle.cluster_laws.specs.Link.EpochLaws.{IsInOrder}
 use Rattle.page_protocol.specs.Authority.{HaveUsed}
 use Rattle.page_protocol.specs.State.{Page}
 use Rattle.page_protocol.specs.Steps.{Reached}
 use Rattle.page_relation.specs.Relation.{IsPageOf}
 use Rattle.page_relation.specs.Together.{IsParty}
-use Rattle.work_relation.specs.Events.{IsEntered}
-use Rattle.work_relation.specs.Keeping.{IsWorkOf, Leads}
-use Rattle.work_relation.specs.StepEnds.{start_of, Follows}
-use Rattle.work_relation.specs.Unseen.{IsUnseen}
+use Rattle.page_relation.specs.Work.Events.{IsEntered}
+use Rattle.page_relation.specs.Work.Keeping.{IsWorkOf, Leads}
+use Rattle.page_relation.specs.Work.StepEnds.{start_of, Follows}
+use Rattle.page_relation.specs.Work.Unseen.{IsUnseen}
 use Rattle.settle_relation.specs.Midway.{IsMidway}
 use Rattle.report_relation.specs.Completing.{IsReady, NewHaveNoRight}
-use Rattle.completion_relation.specs.Completed.{CanBeWhole}
+use Rattle.report_relation.specs.Completion.Completed.{CanBeWhole}
 use Rattle.install_relation.specs.Installing.{IsInstall, IsInstalling, IsWaiting, numbers_at}
 use Rattle.install_relation.specs.Knowing.{IsHeardAt}
 use Rattle.install_relation.specs.Taking.{taken}

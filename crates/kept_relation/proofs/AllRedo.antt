@@ -10,19 +10,19 @@ use Rattle.node_rules.specs.LockTable.{LockTable, pages_of}
 use Rattle.node_rules.specs.NodeState.{partition, table_at}
 use Rattle.node_rules.specs.Work.{Differs, Goes, Outcome, Work, and_so, and_then, for_each, read_page, work_of_home}
 use Rattle.cluster_rules.specs.Clusters.{Cluster}
-use Rattle.era_laws.specs.Eras.{era_in}
+use Rattle.cluster_laws.specs.Era.Eras.{era_in}
 use Rattle.page_protocol.specs.State.{Page}
 use Rattle.page_protocol.specs.Steps.{Reached, here}
 use Rattle.page_relation.specs.Tables.{TableIs}
-use Rattle.storage_laws.specs.Looks.{page_of}
-use Rattle.storage_laws.specs.Machine.{TellsEntry}
-use Rattle.storage_laws.proofs.AsSteps.{greatest_tells_entry_law}
-use Rattle.work_relation.specs.Keeping.{IsWorkOf, Leads}
-use Rattle.work_relation.specs.Landing.{Acts, disk_of}
-use Rattle.work_relation.specs.Letting.{CalledBy}
-use Rattle.work_relation.proofs.Framing.{unseen_is_kept_law}
-use Rattle.work_relation.proofs.Kept.{leads_on, reached_on}
-use Rattle.work_relation.proofs.Storing.{IsHere, stored_is}
+use Rattle.page_laws.specs.Storage.Looks.{page_of}
+use Rattle.page_laws.specs.Storage.Machine.{TellsEntry}
+use Rattle.page_laws.proofs.Storage.AsSteps.{greatest_tells_entry_law}
+use Rattle.page_relation.specs.Work.Keeping.{IsWorkOf, Leads}
+use Rattle.page_relation.specs.Work.Landing.{Acts, disk_of}
+use Rattle.page_relation.specs.Work.Letting.{CalledBy}
+use Rattle.page_relation.proofs.Work.Framing.{unseen_is_kept_law}
+use Rattle.page_relation.proofs.Work.Kept.{leads_on, reached_on}
+use Rattle.page_relation.proofs.Work.Storing.{IsHere, stored_is}
 use Rattle.kept_relation.specs.Redoing.{HaveNoNext, IsRedone, MayRedo, RedoAgrees, RedoKeeps}
 use Rattle.kept_relation.proofs.Among.{page_among}
 use Rattle.kept_relation.proofs.OwnRedo.{redo_leads}

@@ -8,11 +8,11 @@ use Rattle.node_rules.specs.NodeState.{Outgoing, partition}
 use Rattle.node_rules.specs.Work.{Work}
 use Rattle.cluster_rules.specs.Clusters.{Cluster}
 use Rattle.cluster_rules.specs.ClusterStep.{is_taken}
-use Rattle.link_laws.specs.Coming.{coming, sent_to}
+use Rattle.cluster_laws.specs.Link.Coming.{coming, sent_to}
 use Rattle.page_protocol.specs.State.{Page}
-use Rattle.work_relation.specs.Landing.{land, Acts}
-use Rattle.work_relation.specs.Unseen.{speaks}
-use Rattle.work_relation.proofs.Comings.{coming_same}
+use Rattle.page_relation.specs.Work.Landing.{land, Acts}
+use Rattle.page_relation.specs.Work.Unseen.{speaks}
+use Rattle.page_relation.proofs.Work.Comings.{coming_same}
 use Rattle.kept_relation.specs.Clearing.{ClearStays, IsClear}
 use Rattle.kept_relation.specs.Emptying.{dead_below, gone_below}
 use Rattle.kept_relation.specs.Purging.{AreSpared, SparedIn}

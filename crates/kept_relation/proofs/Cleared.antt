@@ -9,14 +9,14 @@ use Rattle.run_rules.specs.Views.{View, is_live}
 use Rattle.node_rules.specs.NodeState.{NodeState, partition}
 use Rattle.node_rules.specs.Work.{Work}
 use Rattle.cluster_rules.specs.Clusters.{Cluster, node_at}
-use Rattle.era_laws.specs.Eras.{era_at, live_at, live_in}
-use Rattle.era_laws.proofs.Ages.{eras_never_fall_law}
-use Rattle.era_laws.proofs.Lives.{lives_go_on_law}
-use Rattle.link_laws.specs.Coming.{coming}
+use Rattle.cluster_laws.specs.Era.Eras.{era_at, live_at, live_in}
+use Rattle.cluster_laws.proofs.Era.Ages.{eras_never_fall_law}
+use Rattle.cluster_laws.proofs.Era.Lives.{lives_go_on_law}
+use Rattle.cluster_laws.specs.Link.Coming.{coming}
 use Rattle.page_protocol.specs.State.{IsClosed, IsShelf, NoRight, Page}
-use Rattle.work_relation.specs.Keeping.{IsWorkOf}
-use Rattle.work_relation.specs.Landing.{land, Acts}
-use Rattle.era_laws.specs.Eras.{born_at}
+use Rattle.page_relation.specs.Work.Keeping.{IsWorkOf}
+use Rattle.page_relation.specs.Work.Landing.{land, Acts}
+use Rattle.cluster_laws.specs.Era.Eras.{born_at}
 use Rattle.kept_relation.specs.Emptying.{AreDead, dead_below, gone_below}
 use Rattle.kept_relation.specs.Known.{AreKnown, IsOfLife, KnownIsClear, dead_of, gone_in}
 use Rattle.kept_relation.specs.Purging.{AreSpared, FitsServed, IsSpared, SparedIn}

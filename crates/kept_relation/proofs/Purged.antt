@@ -15,24 +15,24 @@ use Rattle.node_rules.specs.Words.{flag_at, pick}
 use Rattle.node_rules.specs.Work.{Work, with_node}
 use Rattle.node_laws.proofs.Lists.{set_same}
 use Rattle.cluster_rules.specs.Clusters.{Cluster, node_at}
-use Rattle.entry_laws.specs.Looks.{IsPurged}
-use Rattle.entry_laws.proofs.Looked.{purging_is_seen_law}
-use Rattle.entry_laws.proofs.Tabled.{tables_are_seen_law}
-use Rattle.entry_laws.proofs.Words.{all_from, all_in}
-use Rattle.entry_laws.proofs.Writers.{writers_wait_for_nothing_law}
-use Rattle.era_laws.specs.Eras.{era_at, era_in, owner_at}
-use Rattle.link_laws.specs.Coming.{coming}
+use Rattle.page_laws.specs.Entry.Looks.{IsPurged}
+use Rattle.page_laws.proofs.Entry.Looked.{purging_is_seen_law}
+use Rattle.page_laws.proofs.Entry.Tabled.{tables_are_seen_law}
+use Rattle.page_laws.proofs.Entry.Words.{all_from, all_in}
+use Rattle.page_laws.proofs.Entry.Writers.{writers_wait_for_nothing_law}
+use Rattle.cluster_laws.specs.Era.Eras.{era_at, era_in, owner_at}
+use Rattle.cluster_laws.specs.Link.Coming.{coming}
 use Rattle.page_protocol.specs.State as machine
 use Rattle.page_protocol.specs.State.{NoRight, Right, Shelf, Page, IsShelf, current}
 use Rattle.page_relation.specs.Messages.{CountsFor}
 use Rattle.page_relation.specs.Relation.{HomesAre, LinksAre, MessageIs, NodesAre, TablesAre, on_shelf}
 use Rattle.page_relation.specs.Tables.{EraIs, IsRebuilt, IsServed, TableIn, TableIs, TableOf, WaiterIs, serves_in}
-use Rattle.work_relation.specs.Keeping.{IsWorkOf}
-use Rattle.work_relation.specs.Landing.{land, Acts}
-use Rattle.work_relation.specs.Unseen.{SameStanding}
-use Rattle.work_relation.proofs.Comings.{coming_same}
-use Rattle.work_relation.proofs.Framing.{life_self, use_self, history_stays_law, stored_stays_law, copies_stay_law, homes_stay_law, nodes_stay_law, links_stay_law}
-use Rattle.work_relation.proofs.Nodes.{at_node, at_other, kept_node, of_node}
+use Rattle.page_relation.specs.Work.Keeping.{IsWorkOf}
+use Rattle.page_relation.specs.Work.Landing.{land, Acts}
+use Rattle.page_relation.specs.Work.Unseen.{SameStanding}
+use Rattle.page_relation.proofs.Work.Comings.{coming_same}
+use Rattle.page_relation.proofs.Work.Framing.{life_self, use_self, history_stays_law, stored_stays_law, copies_stay_law, homes_stay_law, nodes_stay_law, links_stay_law}
+use Rattle.page_relation.proofs.Work.Nodes.{at_node, at_other, kept_node, of_node}
 use Rattle.kept_relation.specs.Emptying.{emptied, dead_below, gone_below, nobody}
 use Rattle.kept_relation.specs.Purging.{AreSpared, FitsRebuilt, FitsServed, HasNoTable, PurgingEarlyIsRelated, PurgingEarlyLeads, PurgingIsRelated, PurgingLeads, SparedIn}
 use Rattle.kept_relation.proofs.Running.{emptying_early_is_run_law, emptying_is_run_law}

@@ -16,21 +16,21 @@ use Rattle.node_rules.specs.NodeState.{number_of, put_table, table_at}
 use Rattle.node_rules.specs.Words.{pick}
 use Rattle.node_rules.specs.Work.{Goes, Work, page_or_differs, read_page, with_home_work, with_node, work_of_home}
 use Rattle.cluster_rules.specs.Clusters.{Cluster}
-use Rattle.entry_laws.proofs.Tabled.{tables_are_seen_law}
-use Rattle.look_laws.specs.Buffers.{IsCleaned}
-use Rattle.look_laws.proofs.Copies.{cleaning_is_seen_law}
+use Rattle.page_laws.proofs.Entry.Tabled.{tables_are_seen_law}
+use Rattle.page_laws.specs.Look.Buffers.{IsCleaned}
+use Rattle.page_laws.proofs.Look.Copies.{cleaning_is_seen_law}
 use Rattle.page_protocol.specs.Bytes.{Copy}
 use Rattle.page_protocol.specs.State.{Page}
-use Rattle.storage_laws.specs.Looks.{copy_on, copy_read, page_of}
-use Rattle.work_relation.specs.Events.{IsEntered}
-use Rattle.work_relation.specs.Keeping.{IsWorkOf}
-use Rattle.work_relation.specs.Landing.{disk_of}
-use Rattle.work_relation.specs.Letting.{CalledBy}
-use Rattle.work_relation.specs.Unseen.{IsUnseen, SameEntry, SameTable}
-use Rattle.work_relation.proofs.Called.{pushed}
-use Rattle.work_relation.proofs.Framing.{life_self, page_self, unseen_then}
-use Rattle.work_relation.proofs.Quiet.{calls_elsewhere_law, homes_elsewhere_law, tables_elsewhere_law}
-use Rattle.work_relation.proofs.Storing.{page_beside, stored_is}
+use Rattle.page_laws.specs.Storage.Looks.{copy_on, copy_read, page_of}
+use Rattle.page_relation.specs.Work.Events.{IsEntered}
+use Rattle.page_relation.specs.Work.Keeping.{IsWorkOf}
+use Rattle.page_relation.specs.Work.Landing.{disk_of}
+use Rattle.page_relation.specs.Work.Letting.{CalledBy}
+use Rattle.page_relation.specs.Work.Unseen.{IsUnseen, SameEntry, SameTable}
+use Rattle.page_relation.proofs.Work.Called.{pushed}
+use Rattle.page_relation.proofs.Work.Framing.{life_self, page_self, unseen_then}
+use Rattle.page_relation.proofs.Work.Quiet.{calls_elsewhere_law, homes_elsewhere_law, tables_elsewhere_law}
+use Rattle.page_relation.proofs.Work.Storing.{page_beside, stored_is}
 use Rattle.kept_relation.specs.Redoing.{IsSince, MayRedo, SameClaims}
 use Rattle.kept_relation.proofs.Purged.{put_there}
 

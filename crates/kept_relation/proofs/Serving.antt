@@ -10,13 +10,13 @@ use Rattle.node_rules.specs.LockTable.{LockTable, pages_of}
 use Rattle.node_rules.specs.NodeState.{partition, table_at}
 use Rattle.node_rules.specs.Work.{Differs, Goes, Outcome, Work, and_then, for_each}
 use Rattle.cluster_rules.specs.Clusters.{Cluster, node_at}
-use Rattle.era_laws.specs.Eras.{era_in}
+use Rattle.cluster_laws.specs.Era.Eras.{era_in}
 use Rattle.page_protocol.specs.State.{Page}
 use Rattle.page_protocol.specs.Steps.{Reached, here}
-use Rattle.work_relation.specs.Events.{IsEntered}
-use Rattle.work_relation.specs.Keeping.{IsWorkOf, Keeps, Leads}
-use Rattle.work_relation.specs.Landing.{Acts}
-use Rattle.work_relation.proofs.Kept.{leads_on, reached_on}
+use Rattle.page_relation.specs.Work.Events.{IsEntered}
+use Rattle.page_relation.specs.Work.Keeping.{IsWorkOf, Keeps, Leads}
+use Rattle.page_relation.specs.Work.Landing.{Acts}
+use Rattle.page_relation.proofs.Work.Kept.{leads_on, reached_on}
 use Rattle.kept_relation.specs.Clearing.{IsClear}
 use Rattle.kept_relation.specs.Emptying.{AreDead, dead_below, nobody}
 use Rattle.kept_relation.specs.Purging.{AreSpared, FitsRebuilt, HasNoTable}

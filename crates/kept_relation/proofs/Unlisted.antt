@@ -11,15 +11,15 @@ use Rattle.node_rules.specs.OpenTxs.{OpenTx, is_open, is_own, held_by, pending_o
 use Rattle.node_rules.specs.Words.{pick}
 use Rattle.cluster_rules.specs.Clusters.{Cluster, last_view, node_at, view_of_epoch}
 use Rattle.cluster_laws.specs.Sound.{IsMember}
-use Rattle.era_laws.specs.Eras.{life_in, life_of, live_at, live_in}
-use Rattle.era_laws.proofs.Lives.{up_nodes_live_law}
+use Rattle.cluster_laws.specs.Era.Eras.{life_in, life_of, live_at, live_in}
+use Rattle.cluster_laws.proofs.Era.Lives.{up_nodes_live_law}
 use Rattle.page_protocol.specs.State as machine
 use Rattle.page_protocol.specs.State.{Home, IsClosed, IsFresh, IsShelf, Page, Right, Shelf}
 use Rattle.page_relation.specs.Homes.{Stands, StandsIn, is_unborn, wait_on}
 use Rattle.page_relation.specs.Looks.{shelf_in, shelf_of}
 use Rattle.page_relation.specs.Relation.{on_shelf}
-use Rattle.work_relation.specs.Landing.{land, Acts}
-use Rattle.work_relation.proofs.Nodes.{at_other}
+use Rattle.page_relation.specs.Work.Landing.{land, Acts}
+use Rattle.page_relation.proofs.Work.Nodes.{at_other}
 use Rattle.kept_relation.specs.Gone.{DownHaveNoShelf, GoneAreClosed}
 
 fresh_closed : (h : Home) → IsFresh h → IsClosed h

@@ -6,8 +6,8 @@ use Rattle.run_rules.specs.Views.{View}
 use Rattle.cluster_rules.specs.Clusters.{Cluster}
 use Rattle.node_rules.specs.Work.{Work}
 use Rattle.page_protocol.specs.State.{has, Returning, Page, IsClosed, IsShelf}
-use Rattle.storage_laws.specs.Looks.{is_among}
-use Rattle.work_relation.specs.Landing.{Acts}
+use Rattle.page_laws.specs.Storage.Looks.{is_among}
+use Rattle.page_relation.specs.Work.Landing.{Acts}
 use Rattle.kept_relation.specs.Emptying.{dead_below, gone_below, AreDead}
 use Rattle.kept_relation.specs.Purging.{AreSpared, FitsServed}
 use Rattle.kept_relation.specs.Redoing.{IsSince}

@@ -6,8 +6,8 @@ use Rattle.run_rules.specs.Views.{View, is_live}
 use Rattle.node_rules.specs.Work.{Work}
 use Rattle.cluster_rules.specs.Clusters.{Cluster, last_view, node_at, view_of_epoch}
 use Rattle.page_protocol.specs.State.{Page, IsClosed, IsShelf}
-use Rattle.work_relation.specs.Keeping.{IsWorkOf}
-use Rattle.work_relation.specs.Landing.{Acts}
+use Rattle.page_relation.specs.Work.Keeping.{IsWorkOf}
+use Rattle.page_relation.specs.Work.Landing.{Acts}
 
 -- Transactions that were born by a view which doesn't list their node are closed, where it lists the acting node.
 abbrev pub GoneAreClosed : Type 0

@@ -6,12 +6,12 @@ use Rattle.run_rules.specs.Views.{View, is_live}
 use Rattle.node_rules.specs.NodeState.{NodeState, partition}
 use Rattle.node_rules.specs.Work.{Work}
 use Rattle.cluster_rules.specs.Clusters.{Cluster, last_view, node_at}
-use Rattle.era_laws.specs.Eras.{era_at, life_of}
-use Rattle.era_laws.specs.EraLaws.{Lives}
+use Rattle.cluster_laws.specs.Era.Eras.{era_at, life_of}
+use Rattle.cluster_laws.specs.Era.EraLaws.{Lives}
 use Rattle.page_protocol.specs.State.{has, NoRight, Returning, Page, IsShelf}
-use Rattle.storage_laws.specs.Looks.{is_among}
-use Rattle.work_relation.specs.Keeping.{IsWorkOf}
-use Rattle.work_relation.specs.Landing.{Acts}
+use Rattle.page_laws.specs.Storage.Looks.{is_among}
+use Rattle.page_relation.specs.Work.Keeping.{IsWorkOf}
+use Rattle.page_relation.specs.Work.Landing.{Acts}
 use Rattle.kept_relation.specs.Clearing.{IsClear}
 use Rattle.kept_relation.specs.Sparing.{OwnsIn}
 

@@ -5,3 +5,4 @@ pub mod Clearing
 pub mod Gone
 pub mod Sparing
 pub mod Known
+pub mod Turn

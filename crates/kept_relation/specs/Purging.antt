@@ -13,13 +13,13 @@ use Rattle.node_rules.specs.NodeState.{NodeState, partition, table_at}
 use Rattle.node_rules.specs.Words.{flag_at}
 use Rattle.node_rules.specs.Work.{Work}
 use Rattle.cluster_rules.specs.Clusters.{Cluster, node_at}
-use Rattle.era_laws.specs.Eras.{era_at, era_in}
-use Rattle.link_laws.specs.Coming.{coming}
+use Rattle.cluster_laws.specs.Era.Eras.{era_at, era_in}
+use Rattle.cluster_laws.specs.Link.Coming.{coming}
 use Rattle.page_protocol.specs.State.{NoRight, Page, IsShelf}
 use Rattle.page_relation.specs.Messages.{CountsFor}
-use Rattle.work_relation.specs.Events.{IsEntered}
-use Rattle.work_relation.specs.Keeping.{IsWorkOf, Leads}
-use Rattle.work_relation.specs.Landing.{land, Acts}
+use Rattle.page_relation.specs.Work.Events.{IsEntered}
+use Rattle.page_relation.specs.Work.Keeping.{IsWorkOf, Leads}
+use Rattle.page_relation.specs.Work.Landing.{land, Acts}
 use Rattle.kept_relation.specs.Emptying.{emptied, dead_below, gone_below, nobody, AreDead, AreGone}
 
 -- A message of an era from a node to another still says what is so after the purge of era e: nothing that comes and

@@ -11,12 +11,12 @@ use Rattle.node_rules.specs.Work.{Work, Differs, for_each, work_of_home}
 use Rattle.cluster_rules.specs.Clusters.{Cluster}
 use Rattle.page_protocol.specs.State.{Page}
 use Rattle.page_protocol.specs.Steps.{Reached}
-use Rattle.storage_laws.specs.Looks.{is_among}
-use Rattle.work_relation.specs.Events.{IsEntered}
-use Rattle.work_relation.specs.Keeping.{IsWorkOf, Keeps}
-use Rattle.work_relation.specs.Landing.{Acts, disk_of}
-use Rattle.work_relation.specs.Letting.{CalledBy}
-use Rattle.work_relation.specs.Unseen.{SameStanding}
+use Rattle.page_laws.specs.Storage.Looks.{is_among}
+use Rattle.page_relation.specs.Work.Events.{IsEntered}
+use Rattle.page_relation.specs.Work.Keeping.{IsWorkOf, Keeps}
+use Rattle.page_relation.specs.Work.Landing.{Acts, disk_of}
+use Rattle.page_relation.specs.Work.Letting.{CalledBy}
+use Rattle.page_relation.specs.Work.Unseen.{SameStanding}
 
 -- the locks, rights and transactions of a state, and its era
 pub record SameClaims (a b : Page) : Type 0 where

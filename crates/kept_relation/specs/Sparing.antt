@@ -8,13 +8,13 @@ use Rattle.run_rules.specs.Views.{View, is_live}
 use Rattle.node_rules.specs.NodeState.{number_of, partition}
 use Rattle.node_rules.specs.Work.{Work}
 use Rattle.cluster_rules.specs.Clusters.{Cluster, last_view, view_of_epoch}
-use Rattle.era_laws.specs.Eras.{era_at, owner_at}
-use Rattle.link_laws.specs.Coming.{coming}
+use Rattle.cluster_laws.specs.Era.Eras.{era_at, owner_at}
+use Rattle.cluster_laws.specs.Link.Coming.{coming}
 use Rattle.page_protocol.specs.State.{Page}
 use Rattle.page_relation.specs.Messages.{is_answer}
 use Rattle.page_relation.specs.Together.{IsParty}
-use Rattle.work_relation.specs.Keeping.{IsWorkOf}
-use Rattle.work_relation.specs.Landing.{land, Acts}
+use Rattle.page_relation.specs.Work.Keeping.{IsWorkOf}
+use Rattle.page_relation.specs.Work.Landing.{land, Acts}
 use Rattle.kept_relation.specs.Emptying.{nobody}
 use Rattle.kept_relation.specs.Purging.{AreSpared}
 

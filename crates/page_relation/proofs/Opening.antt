@@ -27,19 +27,19 @@ use Rattle.pcl_base.specs.declared.tx.Mode.TheVariants.{Exclusive}
 use Rattle.page_relation.specs.Homes.{Stands, StandsIn, KindFits, KindIn, ImageIn, wait_on, is_unborn}
 use Rattle.page_relation.specs.Laws.{OpeningIsRelated, OpeningIsWhole, opening_page}
 use Rattle.page_relation.specs.Together.{WaitsAsAsked, IsParty}
-use Rattle.moment_laws.specs.Looks.{accesses_of, accesses_in, asked_last}
+use Rattle.page_laws.specs.Moment.Looks.{accesses_of, accesses_in, asked_last}
 use Rattle.page_protocol.specs.Steps.{here as no_step}
 use Rattle.cluster_laws.proofs.Steps.{opening_is_cluster_law}
 use Rattle.pcl_base.specs.declared.lock.Pending.{Pending}
 use Rattle.page_relation.specs.Looks.{slot_in, slot_of, dirty_in, dirty_of, shelf_in, shelf_of}
-use Rattle.era_laws.specs.Eras.{era_at, owner_at}
-use Rattle.call_laws.proofs.WholeLogs.{opening_has_whole_logs_law}
-use Rattle.link_laws.proofs.Rising.{opening_is_in_order_law}
-use Rattle.storage_laws.proofs.ReadPages.{fresh_is_stored_law}
-use Rattle.entry_laws.specs.Decisions.{NoWriterWaits}
+use Rattle.cluster_laws.specs.Era.Eras.{era_at, owner_at}
+use Rattle.cluster_laws.proofs.Call.WholeLogs.{opening_has_whole_logs_law}
+use Rattle.cluster_laws.proofs.Link.Rising.{opening_is_in_order_law}
+use Rattle.page_laws.proofs.Storage.ReadPages.{fresh_is_stored_law}
+use Rattle.page_laws.specs.Entry.Decisions.{NoWriterWaits}
 use Rattle.page_relation.specs.Messages.{AreOnce}
-use Rattle.link_laws.specs.Coming.{coming, is_coming}
-use Rattle.link_laws.specs.Orders.{AreOrdered}
+use Rattle.cluster_laws.specs.Link.Coming.{coming, is_coming}
+use Rattle.cluster_laws.specs.Link.Orders.{AreOrdered}
 use Rattle.page_relation.specs.Relation.{HistoryIs, CopiesAre, HomesAre, NodesAre, TablesAre, LinksAre, MessageIs}
 use Rattle.page_relation.specs.Tables.{ReachedIn, TableIn, TableOf, WaiterIs, serves_in}
 

@@ -5,3 +5,5 @@ pub mod Tables
 pub mod Relation
 pub mod Together
 pub mod Laws
+pub mod Work
+pub mod Loss

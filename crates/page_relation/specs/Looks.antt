@@ -5,7 +5,7 @@ use Rattle.node_rules.specs.NodeState.{NodeState}
 use Rattle.node_rules.specs.Shelf.{right_on}
 use Rattle.cluster_rules.specs.Clusters.{Cluster, node_at}
 use Rattle.page_protocol.specs.Bytes.{Copy}
-use Rattle.look_laws.specs.Ends.{version_of_right}
+use Rattle.page_laws.specs.Look.Ends.{version_of_right}
 
 -- a copy without the mark that the disk lacks it
 abbrev pub copy_in : Option buffer.Copy → Option Copy

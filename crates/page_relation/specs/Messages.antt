@@ -18,7 +18,7 @@ use Rattle.pcl_base.specs.declared.tx.TxId.{TxId}
 use Rattle.node_rules.specs.Words.{pick, same_tx}
 use Rattle.cluster_rules.specs.Clusters.{version_of_change}
 use Rattle.page_protocol.specs.State.{Word, Current, Image, OnDisk, Sent, Right, NoRight, Flying, Shelf, Returning, Dead, Home, Fresh, Asking, Holding, HoldingAsks, Reading, ReadingAsks, Ended, Gone, In, IsFresh}
-use Rattle.link_laws.specs.Orders.{how_many}
+use Rattle.cluster_laws.specs.Link.Orders.{how_many}
 
 -- what a grant says of the copy
 abbrev pub word_of : CopyPart → Word

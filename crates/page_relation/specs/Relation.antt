@@ -9,12 +9,12 @@ use Rattle.node_rules.specs.NodeState.{partition}
 use Rattle.cluster_rules.specs.Clusters.{Cluster, node_at, last_view}
 use Rattle.page_protocol.specs.Bytes.{Copy}
 use Rattle.page_protocol.specs.State.{Right, NoRight, Flying, Shelf, Returning, Dead, Holding, Page, current}
-use Rattle.era_laws.specs.Eras.{era_at}
-use Rattle.link_laws.specs.Coming.{coming}
-use Rattle.link_laws.specs.Orders.{AreOrdered}
-use Rattle.storage_laws.specs.Looks.{IsStored}
-use Rattle.moment_laws.specs.Looks.{HasPage, accesses_in}
-use Rattle.written_laws.specs.Written.{DiffersWithin}
+use Rattle.cluster_laws.specs.Era.Eras.{era_at}
+use Rattle.cluster_laws.specs.Link.Coming.{coming}
+use Rattle.cluster_laws.specs.Link.Orders.{AreOrdered}
+use Rattle.page_laws.specs.Storage.Looks.{IsStored}
+use Rattle.page_laws.specs.Moment.Looks.{HasPage, accesses_in}
+use Rattle.page_laws.specs.Written.Written.{DiffersWithin}
 use Rattle.page_relation.specs.Looks.{slot_of, dirty_of, shelf_of}
 use Rattle.page_relation.specs.Homes.{StandsIn, KindIn, ImageIn, runs_in}
 use Rattle.page_relation.specs.Messages.{SaysSo, AreOnce}

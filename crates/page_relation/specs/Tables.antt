@@ -11,8 +11,8 @@ use Rattle.node_rules.specs.LockTable.{LockTable, entry_at, marked}
 use Rattle.node_rules.specs.NodeState.{NodeState, table_at, is_serving}
 use Rattle.cluster_rules.specs.Clusters.{Cluster, last_view}
 use Rattle.page_protocol.specs.State.{Right, NoRight, Home, Page}
-use Rattle.entry_laws.specs.Decisions.{NoWriterWaits}
-use Rattle.era_laws.specs.Eras.{era_in, era_at, owner_at}
+use Rattle.page_laws.specs.Entry.Decisions.{NoWriterWaits}
+use Rattle.cluster_laws.specs.Era.Eras.{era_in, era_at, owner_at}
 use Rattle.page_relation.specs.Messages.{HasAsked, CountsFor}
 
 -- who waits at a table of era e has asked

@@ -16,9 +16,9 @@ use Rattle.cluster_rules.specs.Links.{link_at}
 use Rattle.cluster_laws.specs.Sound.{IsCluster}
 use Rattle.page_protocol.specs.State.{Page}
 use Rattle.page_protocol.specs.Steps.{Reached}
-use Rattle.call_laws.specs.CallLaws.{HaveWholeLogs}
-use Rattle.link_laws.specs.EpochLaws.{IsInOrder}
-use Rattle.moment_laws.specs.Looks.{asked_last}
+use Rattle.cluster_laws.specs.Call.CallLaws.{HaveWholeLogs}
+use Rattle.cluster_laws.specs.Link.EpochLaws.{IsInOrder}
+use Rattle.page_laws.specs.Moment.Looks.{asked_last}
 use Rattle.page_relation.specs.Relation.{IsPageOf}
 
 -- An access that waits is the last one that its transaction asked for, so a script gets its bytes.

@@ -11,11 +11,11 @@ use Rattle.cluster_rules.specs.Clusters.{Cluster, opening, node_at}
 use Rattle.cluster_rules.specs.ClusterStep.{step}
 use Rattle.cluster_laws.proofs.Lists.{look_counted}
 use Rattle.cluster_laws.proofs.Steps.{plans_are_good_law}
-use Rattle.link_laws.specs.StepLaws.{IsNodeStep, node_stays, node_acts, node_lost, node_starts}
-use Rattle.link_laws.proofs.Nodes.{nodes_step_law}
-use Rattle.ask_laws.specs.Asked as ask
-use Rattle.ask_laws.proofs.Kept.{steps_wait_as_asked_law}
-use Rattle.moment_laws.specs.Looks.{asked_last}
+use Rattle.cluster_laws.specs.Link.StepLaws.{IsNodeStep, node_stays, node_acts, node_lost, node_starts}
+use Rattle.cluster_laws.proofs.Link.Nodes.{nodes_step_law}
+use Rattle.cluster_laws.specs.Ask.Asked as ask
+use Rattle.cluster_laws.proofs.Ask.Kept.{steps_wait_as_asked_law}
+use Rattle.page_laws.specs.Moment.Looks.{asked_last}
 use Rattle.page_relation.specs.Together.{WaitsAsAsked}
 use Rattle.related_runs.specs.Parts.{StepsHaveAsked, OpeningHasSerials, StepsHaveSerials}
 use Rattle.related_runs.proofs.Stepped.{steps_keep_serials_law}

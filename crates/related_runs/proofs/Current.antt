@@ -23,7 +23,7 @@ use Rattle.page_protocol.specs.Homes.{seen}
 use Rattle.page_protocol.specs.State.{Home, IsGranted, Page, current, version_of}
 use Rattle.page_protocol.proofs.Keeps.{reached_holds}
 use Rattle.page_protocol.proofs.Promises.{fresh_law}
-use Rattle.moment_laws.specs.Looks.{accesses_in}
+use Rattle.page_laws.specs.Moment.Looks.{accesses_in}
 use Rattle.page_relation.specs.Homes.{shared_stand, held_stand, IsOpenAs, Stands, StandsIn, is_unborn, wait_on}
 use Rattle.page_relation.specs.Looks.{copy_in, slot_in, slot_of}
 use Rattle.page_relation.specs.Relation.{IsPageOf}

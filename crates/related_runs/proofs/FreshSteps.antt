@@ -23,7 +23,7 @@ use Rattle.cluster_laws.proofs.Cases.{by_step}
 use Rattle.cluster_laws.proofs.Steps.{up_is_member_law, plans_are_good_law}
 use Rattle.page_protocol.specs.Homes.{seen}
 use Rattle.page_protocol.specs.State.{current}
-use Rattle.moment_laws.specs.Looks.{accesses_in}
+use Rattle.page_laws.specs.Moment.Looks.{accesses_in}
 use Rattle.page_relation.specs.Together.{IsRelated}
 use Rattle.related_runs.specs.Granted.{StandsAt, Given, given_by, ReplyStands, RepliesStand}
 use Rattle.related_runs.specs.RelatedLaws.{RelatedStaysFresh}

@@ -24,3 +24,5 @@ pub mod Spoken
 pub mod Within
 pub mod AllKinds
 pub mod GoingOn
+pub mod Locks
+pub mod Between

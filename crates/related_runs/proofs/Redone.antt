@@ -29,10 +29,10 @@ use Rattle.node_laws.proofs.Shelves.{left_are}
 use Rattle.node_laws.proofs.Stored.{wrote}
 use Rattle.node_laws.proofs.Tables.{pages_are}
 use Rattle.node_laws.proofs.Works.{Base, IsHomeOf, IsHomeWork}
-use Rattle.look_laws.specs.Ends.{HasKinds, HasGivenUp}
-use Rattle.look_laws.specs.Grants.{of_kind}
-use Rattle.look_laws.proofs.Copies.{cleaning_is_seen_law}
-use Rattle.look_laws.proofs.Turning.{taking_over_is_seen_law, giving_up_is_seen_law}
+use Rattle.page_laws.specs.Look.Ends.{HasKinds, HasGivenUp}
+use Rattle.page_laws.specs.Look.Grants.{of_kind}
+use Rattle.page_laws.proofs.Look.Copies.{cleaning_is_seen_law}
+use Rattle.page_laws.proofs.Look.Turning.{taking_over_is_seen_law, giving_up_is_seen_law}
 use Rattle.related_runs.specs.Granted.{StandsAt}
 use Rattle.related_runs.proofs.Ended.{clean_part}
 use Rattle.related_runs.proofs.PageLists.{Before, partition_once, absent_by}

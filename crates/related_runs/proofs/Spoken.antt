@@ -32,16 +32,16 @@ use Rattle.cluster_laws.specs.Laws.{IsGoodPlan}
 use Rattle.cluster_laws.specs.Sound.{IsMember, IsOnLink, IsCluster}
 use Rattle.cluster_laws.proofs.Lists.{look_counted, look_same}
 use Rattle.cluster_laws.proofs.Steps.{up_is_member_law, plans_are_good_law}
-use Rattle.era_laws.specs.Counts.{is_dropped}
-use Rattle.era_laws.specs.CountLaws.{IsOfView}
-use Rattle.era_laws.specs.EraLaws.{AreKept}
-use Rattle.era_laws.specs.Eras.{born_in, owner_at, born_at}
-use Rattle.era_laws.proofs.Counted.{counting_is_of_view_law}
-use Rattle.era_laws.proofs.Epochs.{steps_keep_made_law}
-use Rattle.link_laws.specs.Coming.{sent_to}
-use Rattle.link_laws.specs.StepLaws.{IsPlanned, IsNodeStep, node_stays, node_acts, node_lost, node_starts, IsLinkStep, link_stays, link_gets, link_loses, link_cleared}
-use Rattle.link_laws.proofs.Nodes.{nodes_step_law}
-use Rattle.link_laws.proofs.Stepped.{sizes_stay_law, links_step_law}
+use Rattle.cluster_laws.specs.Era.Counts.{is_dropped}
+use Rattle.cluster_laws.specs.Era.CountLaws.{IsOfView}
+use Rattle.cluster_laws.specs.Era.EraLaws.{AreKept}
+use Rattle.cluster_laws.specs.Era.Eras.{born_in, owner_at, born_at}
+use Rattle.cluster_laws.proofs.Era.Counted.{counting_is_of_view_law}
+use Rattle.cluster_laws.proofs.Era.Epochs.{steps_keep_made_law}
+use Rattle.cluster_laws.specs.Link.Coming.{sent_to}
+use Rattle.cluster_laws.specs.Link.StepLaws.{IsPlanned, IsNodeStep, node_stays, node_acts, node_lost, node_starts, IsLinkStep, link_stays, link_gets, link_loses, link_cleared}
+use Rattle.cluster_laws.proofs.Link.Nodes.{nodes_step_law}
+use Rattle.cluster_laws.proofs.Link.Stepped.{sizes_stay_law, links_step_law}
 use Rattle.page_relation.specs.Together.{IsOf, PartiesAre, IsParty}
 use Rattle.related_runs.specs.Parties.{IsLiving, WaitLiving, TablesLiving, HaveLiving, HaveParties, OpeningHasLiving, StepsKeepParties}
 use Rattle.related_runs.proofs.Talking.{PartiesIn}

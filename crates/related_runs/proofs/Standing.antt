@@ -16,10 +16,10 @@ use Rattle.home_laws.proofs.Tests.{and_left, number_equal, number_same, tx_equal
 use Rattle.step_laws.proofs.Homes as step
 use Rattle.step_laws.proofs.Homes.{granted_home}
 use Rattle.step_laws.proofs.Outcomes.{On}
-use Rattle.look_laws.specs.Accesses.{HasLock}
-use Rattle.look_laws.specs.Grants.{IsSource, IsBroughtTo, current, comes, with_lock_of, IsCarriedOut}
-use Rattle.look_laws.proofs.Accessing.{reading_is_seen_law, locking_is_seen_law}
-use Rattle.look_laws.proofs.Granting.{bringing_is_seen_law, grant_is_seen_law}
+use Rattle.page_laws.specs.Look.Accesses.{HasLock}
+use Rattle.page_laws.specs.Look.Grants.{IsSource, IsBroughtTo, current, comes, with_lock_of, IsCarriedOut}
+use Rattle.page_laws.proofs.Look.Accessing.{reading_is_seen_law, locking_is_seen_law}
+use Rattle.page_laws.proofs.Look.Granting.{bringing_is_seen_law, grant_is_seen_law}
 use Rattle.related_runs.specs.Granted.{StandsAt, Given, given_by, is_commit}
 
 -- ---- the copies of pages

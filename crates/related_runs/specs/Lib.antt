@@ -4,3 +4,5 @@ pub mod Parties
 pub mod Parts
 pub mod RelatedLaws
 pub mod RunLaws
+pub mod Locks
+pub mod Between

@@ -6,8 +6,8 @@ use Rattle.pcl_base.specs.declared.tx.TxId.{TxId}
 use Rattle.cluster_rules.specs.Clusters.{Cluster, opening, node_at}
 use Rattle.cluster_rules.specs.ClusterStep.{step}
 use Rattle.cluster_laws.specs.Sound.{IsCluster}
-use Rattle.moment_laws.specs.Looks.{accesses_in}
-use Rattle.call_laws.specs.CallLaws.{HaveWholeLogs}
+use Rattle.page_laws.specs.Moment.Looks.{accesses_in}
+use Rattle.cluster_laws.specs.Call.CallLaws.{HaveWholeLogs}
 use Rattle.page_relation.specs.Together.{WaitsAsAsked, IsRelated}
 
 -- each home has given fewer serials than there are

@@ -10,8 +10,8 @@ use Rattle.page_protocol.specs.Bytes.{writes}
 use Rattle.page_protocol.specs.State.{Page, Holding}
 use Rattle.page_relation.specs.Laws.{blank}
 use Rattle.page_relation.specs.Together.{HasPages, IsRelated}
-use Rattle.work_relation.specs.Events.{IsEntered}
-use Rattle.used_locks.specs.Used.{HaveUsedLocks}
+use Rattle.page_relation.specs.Work.Events.{IsEntered}
+use Rattle.related_runs.specs.Locks.Used.{HaveUsedLocks}
 use Rattle.related_runs.specs.Parties.{HaveLiving}
 use Rattle.related_runs.specs.Parts.{HaveSerials, HaveWithin}
 

@@ -16,17 +16,17 @@ use Rattle.node_rules.specs.Work.{Work}
 use Rattle.cluster_rules.specs.Clusters.{Cluster, node_at, last_view}
 use Rattle.cluster_laws.specs.Sound.{IsMember}
 use Rattle.cluster_laws.proofs.Steps.{up_is_member_law}
-use Rattle.era_laws.specs.Eras.{era_in}
+use Rattle.cluster_laws.specs.Era.Eras.{era_in}
 use Rattle.page_protocol.specs.State.{Home, Lock, Free, Registered, UnderRight, Right, NoRight, Flying, Shelf, Returning, Dead, lock_of, InEra, IsFresh, IsClosed, IsShelf, Page, current}
 use Rattle.page_protocol.specs.State as machine
 use Rattle.page_relation.specs.Homes.{Stands, StandsIn, is_unborn, wait_on}
 use Rattle.page_relation.specs.Looks.{shelf_in, shelf_of}
 use Rattle.page_relation.specs.Relation.{HomesAre, NodesAre, TablesAre, on_shelf}
 use Rattle.page_relation.specs.Tables.{IsRebuilt, ReachedBy, ReachedIn, TableIs, TableIn, TableOf, serves_in}
-use Rattle.work_relation.specs.Keeping.{IsWorkOf}
-use Rattle.work_relation.specs.Landing.{land, Acts}
-use Rattle.work_relation.proofs.Landed.{landing_is_seen_law}
-use Rattle.work_relation.proofs.Nodes.{at_node}
+use Rattle.page_relation.specs.Work.Keeping.{IsWorkOf}
+use Rattle.page_relation.specs.Work.Landing.{land, Acts}
+use Rattle.page_relation.proofs.Work.Landed.{landing_is_seen_law}
+use Rattle.page_relation.proofs.Work.Nodes.{at_node}
 use Rattle.report_relation.specs.Completing.{IsReady, MayComplete, NewHaveNoRight, ReadyMayComplete}
 use Rattle.report_relation.proofs.Reaching.{others_have_reached_law}
 

@@ -19,7 +19,7 @@ use Rattle.node_laws.proofs.Stored.{wrote}
 use Rattle.node_laws.proofs.Tables.{version_is}
 use Rattle.node_laws.proofs.Works.{Base, IsBase, IsHomeWork, IsGood, part_of, good_home, has_table, good_table}
 use Rattle.cluster_rules.specs.Clusters.{Cluster}
-use Rattle.work_relation.specs.Letting.{CalledBy}
+use Rattle.page_relation.specs.Work.Letting.{CalledBy}
 use Rattle.settle_relation.proofs.Carrying.{on_goes}
 use Rattle.settle_relation.proofs.Midway.{IsMidway, StillWaits, midway_on, still_same}
 use Rattle.report_relation.specs.Redoing.{records}

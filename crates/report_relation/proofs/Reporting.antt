@@ -21,15 +21,15 @@ use Rattle.node_laws.proofs.Works.{good_table, has_table}
 use Rattle.cluster_rules.specs.Clusters.{Cluster}
 use Rattle.cluster_laws.proofs.Steps.{events_can_come_law, up_is_member_law}
 use Rattle.cluster_laws.specs.Sound.{IsMember}
-use Rattle.era_laws.specs.Eras.{era_at, era_in}
-use Rattle.link_laws.specs.Coming.{speaks_of}
+use Rattle.cluster_laws.specs.Era.Eras.{era_at, era_in}
+use Rattle.cluster_laws.specs.Link.Coming.{speaks_of}
 use Rattle.page_protocol.specs.State.{Page}
 use Rattle.page_protocol.specs.Steps.{here}
 use Rattle.page_relation.specs.Messages.{ReportIs, SaysSo}
 use Rattle.page_relation.specs.Together.{IsParty, PartiesAre, IsOf}
-use Rattle.work_relation.specs.Keeping.{IsWorkOf, Keeps, Leads}
-use Rattle.work_relation.proofs.Framing.{unseen_is_kept_law}
-use Rattle.work_relation.proofs.Quiet.{tables_elsewhere_law}
+use Rattle.page_relation.specs.Work.Keeping.{IsWorkOf, Keeps, Leads}
+use Rattle.page_relation.proofs.Work.Framing.{unseen_is_kept_law}
+use Rattle.page_relation.proofs.Work.Quiet.{tables_elsewhere_law}
 use Rattle.settle_relation.specs.Arriving.{IsTakenIn}
 use Rattle.settle_relation.proofs.Deciding.{put_there}
 use Rattle.settle_relation.proofs.Midway.{IsMidway, midway_on, still_same}

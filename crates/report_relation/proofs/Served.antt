@@ -20,11 +20,11 @@ use Rattle.node_rules.specs.Work.{Work, with_node}
 use Rattle.cluster_rules.specs.Clusters.{Cluster, node_at}
 use Rattle.cluster_laws.specs.Sound.{IsMember}
 use Rattle.cluster_laws.proofs.Steps.{up_is_member_law}
-use Rattle.era_laws.specs.Eras.{era_at, era_in, owner_at}
-use Rattle.era_laws.proofs.Ages.{era_is, owner_is, eras_have_one_owner_law}
-use Rattle.era_laws.proofs.Lives.{members_know_eras_law}
-use Rattle.link_laws.specs.Coming.{coming}
-use Rattle.link_laws.specs.Orders.{is_report}
+use Rattle.cluster_laws.specs.Era.Eras.{era_at, era_in, owner_at}
+use Rattle.cluster_laws.proofs.Era.Ages.{era_is, owner_is, eras_have_one_owner_law}
+use Rattle.cluster_laws.proofs.Era.Lives.{members_know_eras_law}
+use Rattle.cluster_laws.specs.Link.Coming.{coming}
+use Rattle.cluster_laws.specs.Link.Orders.{is_report}
 use Rattle.page_protocol.specs.Bytes.{Copy}
 use Rattle.page_protocol.specs.Eras.{completing, settled}
 use Rattle.page_protocol.specs.State.{Page, Right, NoRight, Flying, Shelf, Returning, Dead, current}
@@ -35,14 +35,14 @@ use Rattle.page_protocol.proofs.Keeps.{reached_holds}
 use Rattle.page_relation.specs.Messages.{CountsFor, SaysSo}
 use Rattle.page_relation.specs.Relation.{CopiesAre, HomesAre, LinksAre, MessageIs, NodesAre, TablesAre, on_shelf}
 use Rattle.page_relation.specs.Tables.{EraIs, IsRebuilt, WaiterIs, ReachedBy, ReachedIn, TableIs, TableIn, TableOf, serves_in}
-use Rattle.storage_laws.specs.Looks.{IsStored}
-use Rattle.work_relation.specs.Keeping.{IsWorkOf}
-use Rattle.work_relation.specs.Landing.{land, Acts}
-use Rattle.work_relation.specs.Unseen.{SameStanding}
-use Rattle.work_relation.proofs.Framing.{life_self, use_self, unseen_is_kept_law, history_stays_law, stored_stays_law, copies_stay_law, homes_stay_law, nodes_stay_law, links_stay_law}
-use Rattle.work_relation.proofs.Landed.{landing_is_seen_law}
-use Rattle.work_relation.proofs.Nodes.{of_node}
-use Rattle.work_relation.proofs.Quiet.{quiet_replies_law}
+use Rattle.page_laws.specs.Storage.Looks.{IsStored}
+use Rattle.page_relation.specs.Work.Keeping.{IsWorkOf}
+use Rattle.page_relation.specs.Work.Landing.{land, Acts}
+use Rattle.page_relation.specs.Work.Unseen.{SameStanding}
+use Rattle.page_relation.proofs.Work.Framing.{life_self, use_self, unseen_is_kept_law, history_stays_law, stored_stays_law, copies_stay_law, homes_stay_law, nodes_stay_law, links_stay_law}
+use Rattle.page_relation.proofs.Work.Landed.{landing_is_seen_law}
+use Rattle.page_relation.proofs.Work.Nodes.{of_node}
+use Rattle.page_relation.proofs.Work.Quiet.{quiet_replies_law}
 use Rattle.settle_relation.proofs.Changing.{two_all}
 use Rattle.settle_relation.proofs.Deciding.{put_there}
 use Rattle.report_relation.specs.Completing.{IsReady, MayComplete, NewHaveNoRight}

@@ -8,8 +8,8 @@ use Rattle.node_rules.specs.Work.{Work, Goes, for_each}
 use Rattle.cluster_rules.specs.Clusters.{Cluster}
 use Rattle.page_protocol.specs.State.{Page}
 use Rattle.page_protocol.specs.Steps.{Reached}
-use Rattle.work_relation.specs.Keeping.{IsWorkOf}
-use Rattle.work_relation.specs.Landing.{Acts}
+use Rattle.page_relation.specs.Work.Keeping.{IsWorkOf}
+use Rattle.page_relation.specs.Work.Landing.{Acts}
 use Rattle.report_relation.specs.Redoing.{MayRedo, RedoLeads, records}
 
 -- The redo of all pages of its partition keeps the relation of a page, and leaves it on disk as it is now.

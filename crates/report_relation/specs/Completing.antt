@@ -7,12 +7,12 @@ use Rattle.node_rules.specs.NodeState.{NodeState, partition, table_at}
 use Rattle.node_rules.specs.Reports.{missing}
 use Rattle.node_rules.specs.Work.{Work}
 use Rattle.cluster_rules.specs.Clusters.{Cluster, node_at, view_of_epoch, last_view}
-use Rattle.era_laws.specs.Eras.{era_at}
+use Rattle.cluster_laws.specs.Era.Eras.{era_at}
 use Rattle.page_protocol.specs.Eras.{IsComplete}
 use Rattle.page_protocol.specs.State.{Page}
 use Rattle.page_relation.specs.Looks.{shelf_in}
-use Rattle.work_relation.specs.Keeping.{IsWorkOf}
-use Rattle.work_relation.specs.Landing.{Acts}
+use Rattle.page_relation.specs.Work.Keeping.{IsWorkOf}
+use Rattle.page_relation.specs.Work.Landing.{Acts}
 
 -- In the view of some epoch no report to the owner n of a partition is missing in its table.
 pub record HasAll (c : Cluster) (n q epoch : ℕ) (v : View) (t : LockTable) : Type 0 where

@@ -17,14 +17,14 @@ use Rattle.node_rules.specs.Reports.{gather, missing}
 use Rattle.node_rules.specs.Work.{Work, with_node}
 use Rattle.cluster_rules.specs.Clusters.{Cluster}
 use Rattle.cluster_rules.specs.ClusterStep.{step}
-use Rattle.era_laws.specs.Eras.{era_in}
+use Rattle.cluster_laws.specs.Era.Eras.{era_in}
 use Rattle.page_protocol.specs.State.{Page}
 use Rattle.page_relation.specs.Messages.{ReportIs}
 use Rattle.page_relation.specs.Together.{IsParty}
-use Rattle.work_relation.specs.Events.{IsEntered}
-use Rattle.work_relation.specs.Keeping.{IsWorkOf}
-use Rattle.work_relation.specs.Landing.{Acts}
-use Rattle.work_relation.specs.StepEnds.{Follows}
+use Rattle.page_relation.specs.Work.Events.{IsEntered}
+use Rattle.page_relation.specs.Work.Keeping.{IsWorkOf}
+use Rattle.page_relation.specs.Work.Landing.{Acts}
+use Rattle.page_relation.specs.Work.StepEnds.{Follows}
 use Rattle.settle_relation.specs.Arriving.{IsTakenIn, IsWhole}
 
 -- Of a node whose report the table doesn't have, nobody waits in the entry whom the era lists as writing the page.

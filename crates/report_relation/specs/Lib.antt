@@ -5,3 +5,5 @@ pub mod Serving
 pub mod Settled
 pub mod RedoneMidway
 pub mod AllRedone
+pub mod Completion
+pub mod Bury

@@ -11,10 +11,10 @@ use Rattle.node_rules.specs.Work.{Work, Goes, Differs, for_each, work_of_home}
 use Rattle.cluster_rules.specs.Clusters.{Cluster}
 use Rattle.page_protocol.specs.State.{Page, current}
 use Rattle.page_protocol.specs.Steps.{Run, Reached}
-use Rattle.work_relation.specs.Keeping.{IsWorkOf}
-use Rattle.work_relation.specs.Landing.{Acts, disk_of}
-use Rattle.work_relation.specs.Letting.{CalledBy}
-use Rattle.work_relation.specs.Rest.{SameRest}
+use Rattle.page_relation.specs.Work.Keeping.{IsWorkOf}
+use Rattle.page_relation.specs.Work.Landing.{Acts, disk_of}
+use Rattle.page_relation.specs.Work.Letting.{CalledBy}
+use Rattle.page_relation.specs.Work.Rest.{SameRest}
 
 -- the records with which redo works: those of all logs at the start of the step
 abbrev pub records : Cluster → List Record

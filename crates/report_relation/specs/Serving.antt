@@ -10,15 +10,15 @@ use Rattle.node_rules.specs.LockTable.{LockTable, marked, serve}
 use Rattle.node_rules.specs.NodeState.{partition, put_table}
 use Rattle.node_rules.specs.Work.{Work, reply, with_node}
 use Rattle.cluster_rules.specs.Clusters.{Cluster}
-use Rattle.era_laws.specs.Eras.{era_at}
-use Rattle.link_laws.specs.Coming.{coming}
-use Rattle.link_laws.specs.Orders.{is_report}
+use Rattle.cluster_laws.specs.Era.Eras.{era_at}
+use Rattle.cluster_laws.specs.Link.Coming.{coming}
+use Rattle.cluster_laws.specs.Link.Orders.{is_report}
 use Rattle.page_protocol.specs.Eras.{completing}
 use Rattle.page_protocol.specs.State.{Page}
 use Rattle.page_protocol.specs.Steps.{Step, Reached}
 use Rattle.page_relation.specs.Messages.{CountsFor}
-use Rattle.work_relation.specs.Keeping.{IsWorkOf}
-use Rattle.work_relation.specs.Landing.{land, Acts}
+use Rattle.page_relation.specs.Work.Keeping.{IsWorkOf}
+use Rattle.page_relation.specs.Work.Landing.{land, Acts}
 use Rattle.report_relation.specs.Completing.{IsReady, NewHaveNoRight}
 use Rattle.report_relation.specs.Redoing.{IsRedone}
 

@@ -4,10 +4,10 @@ use Rattle.pcl_base.specs.declared.event.Event.{Event}
 use Rattle.node_rules.specs.InstallRule.{settle_all}
 use Rattle.node_laws.proofs.Works.{Base}
 use Rattle.cluster_rules.specs.Clusters.{Cluster}
-use Rattle.link_laws.specs.EpochLaws.{IsInOrder}
-use Rattle.work_relation.specs.Events.{IsEntered}
-use Rattle.work_relation.specs.Keeping.{Keeps}
-use Rattle.work_relation.specs.Landing.{Acts}
+use Rattle.cluster_laws.specs.Link.EpochLaws.{IsInOrder}
+use Rattle.page_relation.specs.Work.Events.{IsEntered}
+use Rattle.page_relation.specs.Work.Keeping.{Keeps}
+use Rattle.page_relation.specs.Work.Landing.{Acts}
 use Rattle.settle_relation.specs.Midway.{IsMidway}
 
 -- It keeps the relation of each page.

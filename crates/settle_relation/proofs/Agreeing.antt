@@ -23,16 +23,16 @@ use Rattle.node_laws.proofs.Entries.{IsDecision}
 use Rattle.node_laws.proofs.Pages.{entry_there}
 use Rattle.node_laws.proofs.Works.{Base}
 use Rattle.cluster_rules.specs.Clusters.{Cluster}
-use Rattle.entry_laws.specs.Decisions.{IsLocked, IsGiven, Settles, rests, locks, gives, revokes}
-use Rattle.link_laws.specs.EpochLaws.{IsInOrder}
+use Rattle.page_laws.specs.Entry.Decisions.{IsLocked, IsGiven, Settles, rests, locks, gives, revokes}
+use Rattle.cluster_laws.specs.Link.EpochLaws.{IsInOrder}
 use Rattle.page_protocol.specs.State.{Image, OnDisk, Page}
 use Rattle.page_protocol.specs.Steps.{Reached, here, then}
-use Rattle.work_relation.specs.Events.{IsEntered}
-use Rattle.work_relation.specs.Keeping.{IsWorkOf, Leads}
-use Rattle.work_relation.specs.Landing.{Acts}
-use Rattle.work_relation.proofs.Kept.{reached_on}
-use Rattle.grant_relation.specs.Carrying.{HasOwnImage}
-use Rattle.grant_relation.proofs.Accepting.{own_grant_goes_law}
+use Rattle.page_relation.specs.Work.Events.{IsEntered}
+use Rattle.page_relation.specs.Work.Keeping.{IsWorkOf, Leads}
+use Rattle.page_relation.specs.Work.Landing.{Acts}
+use Rattle.page_relation.proofs.Work.Kept.{reached_on}
+use Rattle.settle_relation.specs.Grant.Carrying.{HasOwnImage}
+use Rattle.settle_relation.proofs.Grant.Accepting.{own_grant_goes_law}
 use Rattle.settle_relation.specs.Deciding.{rewound}
 use Rattle.settle_relation.proofs.Carrying.{entry_midway}
 use Rattle.settle_relation.proofs.Decisions.{IsSettling, at_version}

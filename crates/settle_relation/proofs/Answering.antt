@@ -12,18 +12,18 @@ use Rattle.run_rules.specs.Views.{View, owner_of}
 use Rattle.node_rules.specs.NodeState.{owner_in, partition}
 use Rattle.node_rules.specs.Work.{Work}
 use Rattle.cluster_rules.specs.Clusters.{Cluster}
-use Rattle.era_laws.specs.Eras.{era_at, owner_at}
-use Rattle.era_laws.proofs.Ages.{eras_have_one_owner_law}
-use Rattle.link_laws.specs.Coming.{speaks_of}
-use Rattle.link_laws.specs.Orders.{how_many}
+use Rattle.cluster_laws.specs.Era.Eras.{era_at, owner_at}
+use Rattle.cluster_laws.proofs.Era.Ages.{eras_have_one_owner_law}
+use Rattle.cluster_laws.specs.Link.Coming.{speaks_of}
+use Rattle.cluster_laws.specs.Link.Orders.{how_many}
 use Rattle.page_protocol.specs.Authority.{with_shared}
 use Rattle.page_protocol.specs.State.{NoRight, Flying, Returning, Page, has, pick as picked, updn}
 use Rattle.page_protocol.proofs.Basics.{by_node, by_test, and_true, eqb_true}
 use Rattle.page_relation.specs.Messages.{CountsFor, SaysSo, is_answer}
 use Rattle.page_relation.specs.Relation.{on_shelf}
 use Rattle.page_relation.specs.Together.{IsParty, PartiesAre}
-use Rattle.work_relation.specs.Keeping.{IsWorkOf}
-use Rattle.work_relation.specs.Landing.{land, Acts}
+use Rattle.page_relation.specs.Work.Keeping.{IsWorkOf}
+use Rattle.page_relation.specs.Work.Landing.{land, Acts}
 use Rattle.settle_relation.specs.Deciding.{IsDecided}
 use Rattle.settle_relation.proofs.OwnGrants.{eras_of}
 use Rattle.settle_relation.proofs.Requesting.{acts}

@@ -15,14 +15,14 @@ use Rattle.node_rules.specs.Words.{same_tx}
 use Rattle.node_rules.specs.Work.{Work}
 use Rattle.node_laws.proofs.Lists.{all_filter}
 use Rattle.cluster_rules.specs.Clusters.{Cluster}
-use Rattle.era_laws.specs.Eras.{era_at}
-use Rattle.link_laws.specs.Orders.{how_many}
+use Rattle.cluster_laws.specs.Era.Eras.{era_at}
+use Rattle.cluster_laws.specs.Link.Orders.{how_many}
 use Rattle.page_protocol.specs.State.{Sent, NoRight, Flying, Returning, Page, set_at, updn}
 use Rattle.page_protocol.proofs.Basics.{by_node, by_set}
 use Rattle.page_relation.specs.Messages.{IsSent, SaysSo, CountsFor, is_right, sent_of}
 use Rattle.page_relation.specs.Relation.{LinksAre, MessageIs, on_shelf}
-use Rattle.work_relation.specs.Keeping.{IsWorkOf}
-use Rattle.work_relation.specs.Landing.{land}
+use Rattle.page_relation.specs.Work.Keeping.{IsWorkOf}
+use Rattle.page_relation.specs.Work.Landing.{land}
 use Rattle.settle_relation.specs.Deciding.{IsDecided}
 
 -- ---- what a decision of the authority changes

@@ -12,18 +12,18 @@ use Rattle.cluster_rules.specs.ClusterStep.{is_taken}
 use Rattle.cluster_rules.specs.Links.{link_at, tail_of}
 use Rattle.cluster_laws.specs.Sound.{IsMember, IsOnLink, IsCluster}
 use Rattle.cluster_laws.proofs.Steps.{up_is_member_law}
-use Rattle.era_laws.specs.Counts.{counts_at, counts_in}
-use Rattle.era_laws.specs.Eras.{era_at}
-use Rattle.era_laws.proofs.Ages.{eras_never_fall_law}
-use Rattle.era_laws.proofs.Counted.{counting_is_of_view_law}
-use Rattle.era_laws.proofs.Lives.{members_know_eras_law, stands}
-use Rattle.link_laws.specs.Coming.{speaks_of, is_coming, sent_to, delivers}
-use Rattle.link_laws.proofs.Linked.{sent_have}
+use Rattle.cluster_laws.specs.Era.Counts.{counts_at, counts_in}
+use Rattle.cluster_laws.specs.Era.Eras.{era_at}
+use Rattle.cluster_laws.proofs.Era.Ages.{eras_never_fall_law}
+use Rattle.cluster_laws.proofs.Era.Counted.{counting_is_of_view_law}
+use Rattle.cluster_laws.proofs.Era.Lives.{members_know_eras_law, stands}
+use Rattle.cluster_laws.specs.Link.Coming.{speaks_of, is_coming, sent_to, delivers}
+use Rattle.cluster_laws.proofs.Link.Linked.{sent_have}
 use Rattle.page_relation.specs.Tables.{ReachedBy, ReachedIn}
-use Rattle.work_relation.specs.Landing.{land}
-use Rattle.work_relation.proofs.Comings.{landed_coming}
-use Rattle.work_relation.proofs.Framing.{reached_landed}
-use Rattle.work_relation.proofs.Landed.{landing_is_seen_law}
+use Rattle.page_relation.specs.Work.Landing.{land}
+use Rattle.page_relation.proofs.Work.Comings.{landed_coming}
+use Rattle.page_relation.proofs.Work.Framing.{reached_landed}
+use Rattle.page_relation.proofs.Work.Landed.{landing_is_seen_law}
 use Rattle.settle_relation.specs.Counted.{ComingIsNotPast}
 
 -- those that pass a test

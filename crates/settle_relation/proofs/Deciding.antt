@@ -16,18 +16,18 @@ use Rattle.node_rules.specs.Words.{pick}
 use Rattle.node_rules.specs.Work.{Work}
 use Rattle.node_laws.proofs.Lists.{set_same}
 use Rattle.cluster_rules.specs.Clusters.{Cluster}
-use Rattle.entry_laws.proofs.Tabled.{tables_are_seen_law}
-use Rattle.era_laws.specs.Eras.{era_at, owner_at, era_in}
-use Rattle.link_laws.specs.Coming.{coming}
+use Rattle.page_laws.proofs.Entry.Tabled.{tables_are_seen_law}
+use Rattle.cluster_laws.specs.Era.Eras.{era_at, owner_at, era_in}
+use Rattle.cluster_laws.specs.Link.Coming.{coming}
 use Rattle.page_protocol.specs.State.{Sent, Right, Returning, Page, current}
 use Rattle.page_relation.specs.Messages.{sent_of, IsSent, ReportIs, SaysSo, is_answer}
 use Rattle.page_relation.specs.Relation.{HomesAre, NodesAre, TablesAre, LinksAre, MessageIs}
 use Rattle.page_relation.specs.Tables.{IsServed, TableIs, TableIn, TableOf, serves_in, EraIs}
-use Rattle.work_relation.specs.Landing.{land, Acts}
-use Rattle.work_relation.specs.Unseen.{SameStanding}
-use Rattle.work_relation.proofs.Comings.{coming_same}
-use Rattle.work_relation.proofs.Framing.{life_self, use_self, history_stays_law, stored_stays_law, copies_stay_law, homes_stay_law, nodes_stay_law, links_stay_law}
-use Rattle.work_relation.proofs.Nodes.{changed_node, kept_node}
+use Rattle.page_relation.specs.Work.Landing.{land, Acts}
+use Rattle.page_relation.specs.Work.Unseen.{SameStanding}
+use Rattle.page_relation.proofs.Work.Comings.{coming_same}
+use Rattle.page_relation.proofs.Work.Framing.{life_self, use_self, history_stays_law, stored_stays_law, copies_stay_law, homes_stay_law, nodes_stay_law, links_stay_law}
+use Rattle.page_relation.proofs.Work.Nodes.{changed_node, kept_node}
 use Rattle.settle_relation.specs.Deciding.{rewound, decided, IsDecided, StillAnswers, ServesWith, DecidingIsRelated}
 
 -- what is put where something was, is there

@@ -18,15 +18,15 @@ use Rattle.node_rules.specs.Work.{Work, send}
 use Rattle.node_laws.proofs.Lists.{all_each}
 use Rattle.node_laws.proofs.Works.{Base}
 use Rattle.cluster_rules.specs.Clusters.{Cluster}
-use Rattle.entry_laws.specs.Decisions.{IsLocked, IsGiven, IsMarked, NoWriterWaits}
-use Rattle.entry_laws.specs.Steps.{IsEntryOf, IsStepTo}
-use Rattle.entry_laws.proofs.Decided.{locked_keeps, given_keeps, marked_keeps}
-use Rattle.entry_laws.proofs.Stepped.{grant_is_step_law, right_is_step_law, revocation_is_none_law, not_out}
-use Rattle.entry_laws.proofs.Words.{all_in}
-use Rattle.era_laws.specs.Eras.{era_at, era_in}
-use Rattle.link_laws.specs.Coming.{coming}
-use Rattle.link_laws.specs.EpochLaws.{IsInOrder}
-use Rattle.link_laws.specs.Orders.{how_many}
+use Rattle.page_laws.specs.Entry.Decisions.{IsLocked, IsGiven, IsMarked, NoWriterWaits}
+use Rattle.page_laws.specs.Entry.Steps.{IsEntryOf, IsStepTo}
+use Rattle.page_laws.proofs.Entry.Decided.{locked_keeps, given_keeps, marked_keeps}
+use Rattle.page_laws.proofs.Entry.Stepped.{grant_is_step_law, right_is_step_law, revocation_is_none_law, not_out}
+use Rattle.page_laws.proofs.Entry.Words.{all_in}
+use Rattle.cluster_laws.specs.Era.Eras.{era_at, era_in}
+use Rattle.cluster_laws.specs.Link.Coming.{coming}
+use Rattle.cluster_laws.specs.Link.EpochLaws.{IsInOrder}
+use Rattle.cluster_laws.specs.Link.Orders.{how_many}
 use Rattle.page_protocol.specs.Authority.{granting, giving, WordFits}
 use Rattle.page_protocol.specs.State.{Word, Sent, Right, NoRight, Flying, Returning, Page, set_at, updn}
 use Rattle.page_protocol.specs.Steps.{Run, Reached, here, then}
@@ -34,13 +34,13 @@ use Rattle.page_protocol.proofs.Basics.{updn_same}
 use Rattle.page_relation.specs.Messages.{HasAsked, SaysSo, is_right}
 use Rattle.page_relation.specs.Relation.{LinksAre, MessageIs}
 use Rattle.page_relation.specs.Tables.{IsServed, WaiterIs}
-use Rattle.work_relation.specs.Events.{IsEntered}
-use Rattle.work_relation.specs.Keeping.{IsWorkOf}
-use Rattle.work_relation.specs.Landing.{land, Acts}
-use Rattle.work_relation.specs.Sends.{MaySend}
-use Rattle.work_relation.proofs.Comings.{coming_same}
-use Rattle.work_relation.proofs.Kept.{reached_on}
-use Rattle.work_relation.proofs.Sending.{send_is_kept_law}
+use Rattle.page_relation.specs.Work.Events.{IsEntered}
+use Rattle.page_relation.specs.Work.Keeping.{IsWorkOf}
+use Rattle.page_relation.specs.Work.Landing.{land, Acts}
+use Rattle.page_relation.specs.Work.Sends.{MaySend}
+use Rattle.page_relation.proofs.Work.Comings.{coming_same}
+use Rattle.page_relation.proofs.Work.Kept.{reached_on}
+use Rattle.page_relation.proofs.Work.Sending.{send_is_kept_law}
 use Rattle.settle_relation.specs.Deciding.{rewound, decided, IsDecided, StillAnswers}
 use Rattle.settle_relation.specs.Fitting.{word_sent}
 use Rattle.settle_relation.proofs.Counting.{coming_is_not_past_law}

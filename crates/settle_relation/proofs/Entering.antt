@@ -14,24 +14,24 @@ use Rattle.node_laws.specs.Nodes.{IsEntry}
 use Rattle.node_laws.proofs.Pages.{entry_there}
 use Rattle.node_laws.proofs.Works.{Base}
 use Rattle.cluster_rules.specs.Clusters.{Cluster}
-use Rattle.entry_laws.specs.Looks.{IsAsked}
-use Rattle.entry_laws.proofs.Looked.{asking_is_seen_law}
-use Rattle.entry_laws.proofs.Words.{all_from, all_in}
-use Rattle.entry_laws.proofs.Writers.{asked_keeps}
-use Rattle.era_laws.specs.Eras.{era_in}
-use Rattle.link_laws.specs.EpochLaws.{IsInOrder}
+use Rattle.page_laws.specs.Entry.Looks.{IsAsked}
+use Rattle.page_laws.proofs.Entry.Looked.{asking_is_seen_law}
+use Rattle.page_laws.proofs.Entry.Words.{all_from, all_in}
+use Rattle.page_laws.proofs.Entry.Writers.{asked_keeps}
+use Rattle.cluster_laws.specs.Era.Eras.{era_in}
+use Rattle.cluster_laws.specs.Link.EpochLaws.{IsInOrder}
 use Rattle.page_protocol.specs.State.{Page, current}
 use Rattle.page_protocol.specs.Steps.{Reached, here}
 use Rattle.page_relation.specs.Messages.{HasAsked}
 use Rattle.page_relation.specs.Relation.{TablesAre}
 use Rattle.page_relation.specs.Tables.{IsServed, IsRebuilt, TableIs, TableIn, TableOf, WaiterIs, serves_in}
-use Rattle.work_relation.specs.Events.{IsEntered}
-use Rattle.work_relation.specs.Keeping.{IsWorkOf, Leads}
-use Rattle.work_relation.specs.Landing.{land, Acts}
-use Rattle.work_relation.specs.Unseen.{SameStanding}
-use Rattle.work_relation.proofs.Framing.{unseen_is_kept_law, life_self, use_self, history_stays_law, stored_stays_law, copies_stay_law, homes_stay_law, nodes_stay_law, links_stay_law}
-use Rattle.work_relation.proofs.Kept.{leads_on, reached_on}
-use Rattle.work_relation.proofs.Nodes.{kept_node}
+use Rattle.page_relation.specs.Work.Events.{IsEntered}
+use Rattle.page_relation.specs.Work.Keeping.{IsWorkOf, Leads}
+use Rattle.page_relation.specs.Work.Landing.{land, Acts}
+use Rattle.page_relation.specs.Work.Unseen.{SameStanding}
+use Rattle.page_relation.proofs.Work.Framing.{unseen_is_kept_law, life_self, use_self, history_stays_law, stored_stays_law, copies_stay_law, homes_stay_law, nodes_stay_law, links_stay_law}
+use Rattle.page_relation.proofs.Work.Kept.{leads_on, reached_on}
+use Rattle.page_relation.proofs.Work.Nodes.{kept_node}
 use Rattle.settle_relation.specs.Deciding.{rewound}
 use Rattle.settle_relation.proofs.Carrying.{entry_midway}
 use Rattle.settle_relation.proofs.Deciding.{era_landed, put_there, put_here}

@@ -24,10 +24,10 @@ use Rattle.page_relation.specs.Homes.{Stands, StandsIn, is_unborn, wait_on}
 use Rattle.page_relation.specs.Looks.{copy_in, slot_in, slot_of}
 use Rattle.page_relation.specs.Messages.{HasAsked, IsTold, word_of}
 use Rattle.page_relation.specs.Tables.{ReachedBy, ReachedIn}
-use Rattle.work_relation.specs.Keeping.{IsWorkOf}
-use Rattle.work_relation.specs.Landing.{land, Acts}
-use Rattle.work_relation.proofs.Framing.{reached_landed}
-use Rattle.work_relation.proofs.Nodes.{at_node, at_other}
+use Rattle.page_relation.specs.Work.Keeping.{IsWorkOf}
+use Rattle.page_relation.specs.Work.Landing.{land, Acts}
+use Rattle.page_relation.proofs.Work.Framing.{reached_landed}
+use Rattle.page_relation.proofs.Work.Nodes.{at_node, at_other}
 use Rattle.settle_relation.specs.Fitting.{word_sent, word_own, WordsFit}
 
 -- ---- who isn't open told nothing that binds

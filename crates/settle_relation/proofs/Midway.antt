@@ -30,15 +30,15 @@ use Rattle.cluster_rules.specs.Clusters.{Cluster, node_at, sent_by, view_of_epoc
 use Rattle.cluster_laws.specs.Handed.{handed_to, IsHanded}
 use Rattle.cluster_laws.specs.Sound.{IsMember, IsCluster}
 use Rattle.cluster_laws.proofs.Steps.{up_is_member_law}
-use Rattle.moment_laws.specs.Looks.{asked_last, with_entry, Adds}
-use Rattle.moment_laws.proofs.Entries.{event_adds_law, reply_adds_law, sent_adds_nothing_law}
-use Rattle.moment_laws.proofs.Growing.{ask_tells_law, nothing_tells_law}
+use Rattle.page_laws.specs.Moment.Looks.{asked_last, with_entry, Adds}
+use Rattle.page_laws.proofs.Moment.Entries.{event_adds_law, reply_adds_law, sent_adds_nothing_law}
+use Rattle.page_laws.proofs.Moment.Growing.{ask_tells_law, nothing_tells_law}
 use Rattle.page_protocol.specs.State as machine
 use Rattle.page_protocol.proofs.Basics.{same_tx_true}
 use Rattle.page_relation.specs.Together.{WaitsAsAsked}
-use Rattle.work_relation.specs.Landing.{trace_of}
-use Rattle.work_relation.specs.Letting.{CalledBy}
-use Rattle.work_relation.specs.StepEnds.{start_of}
+use Rattle.page_relation.specs.Work.Landing.{trace_of}
+use Rattle.page_relation.specs.Work.Letting.{CalledBy}
+use Rattle.page_relation.specs.Work.StepEnds.{start_of}
 pub use Rattle.settle_relation.specs.Midway.{IsMidway}
 
 -- each access that waits waited before

@@ -17,22 +17,22 @@ use Rattle.node_rules.specs.OwnerRule.{grant_own, told}
 use Rattle.node_rules.specs.Work.{Outcome, Goes, Differs, Work, and_so, and_then, work_of_home}
 use Rattle.node_laws.proofs.Works.{Base}
 use Rattle.cluster_rules.specs.Clusters.{Cluster}
-use Rattle.entry_laws.specs.Decisions.{IsLocked}
-use Rattle.entry_laws.specs.Steps.{IsStepTo}
-use Rattle.entry_laws.proofs.Decided.{locked_keeps}
-use Rattle.entry_laws.proofs.Stepped.{grant_is_step_law}
-use Rattle.link_laws.specs.EpochLaws.{IsInOrder}
+use Rattle.page_laws.specs.Entry.Decisions.{IsLocked}
+use Rattle.page_laws.specs.Entry.Steps.{IsStepTo}
+use Rattle.page_laws.proofs.Entry.Decided.{locked_keeps}
+use Rattle.page_laws.proofs.Entry.Stepped.{grant_is_step_law}
+use Rattle.cluster_laws.specs.Link.EpochLaws.{IsInOrder}
 use Rattle.page_protocol.specs.Authority.{granting, WordFits}
 use Rattle.page_protocol.specs.State.{Word, Sent, Page, set_at}
 use Rattle.page_protocol.specs.Steps.{here, then}
 use Rattle.page_protocol.proofs.Keeps.{and_then as runs_then}
 use Rattle.page_relation.specs.Tables.{EraIs, WaiterIs}
-use Rattle.work_relation.specs.Events.{IsEntered}
-use Rattle.work_relation.specs.Keeping.{IsWorkOf, Leads}
-use Rattle.work_relation.specs.Landing.{land, Acts}
-use Rattle.work_relation.proofs.Kept.{reached_on}
-use Rattle.grant_relation.specs.Carrying.{MayCarry}
-use Rattle.grant_relation.proofs.Accepting.{own_grant_leads_law}
+use Rattle.page_relation.specs.Work.Events.{IsEntered}
+use Rattle.page_relation.specs.Work.Keeping.{IsWorkOf, Leads}
+use Rattle.page_relation.specs.Work.Landing.{land, Acts}
+use Rattle.page_relation.proofs.Work.Kept.{reached_on}
+use Rattle.settle_relation.specs.Grant.Carrying.{MayCarry}
+use Rattle.settle_relation.proofs.Grant.Accepting.{own_grant_leads_law}
 use Rattle.settle_relation.specs.Deciding.{rewound}
 use Rattle.settle_relation.specs.Fitting.{word_own}
 use Rattle.settle_relation.proofs.Changing.{fewer_wait, granting_decides}

@@ -26,20 +26,20 @@ use Rattle.cluster_rules.specs.Clusters.{Cluster}
 use Rattle.cluster_rules.specs.ClusterStep.{step}
 use Rattle.cluster_laws.specs.Sound.{IsMember}
 use Rattle.cluster_laws.proofs.Steps.{events_can_come_law, up_is_member_law}
-use Rattle.era_laws.specs.Eras.{era_at, era_in}
-use Rattle.link_laws.specs.Coming.{speaks_of}
+use Rattle.cluster_laws.specs.Era.Eras.{era_at, era_in}
+use Rattle.cluster_laws.specs.Link.Coming.{speaks_of}
 use Rattle.page_protocol.specs.State.{Page}
 use Rattle.page_protocol.specs.Steps.{here}
 use Rattle.page_relation.specs.Messages.{HasAsked, SaysSo}
 use Rattle.page_relation.specs.Relation.{IsPageOf}
-use Rattle.work_relation.specs.Events.{IsEntered}
-use Rattle.work_relation.specs.Keeping.{IsWorkOf, Leads}
-use Rattle.work_relation.specs.Landing.{Acts}
-use Rattle.work_relation.specs.StepEnds.{start_of, Follows}
-use Rattle.work_relation.specs.Taken.{taken_of, TakenSays}
-use Rattle.work_relation.proofs.Ended.{end_is_landed_law}
-use Rattle.work_relation.proofs.Started.{acting}
-use Rattle.work_relation.proofs.Taking.{taken_is_said_law}
+use Rattle.page_relation.specs.Work.Events.{IsEntered}
+use Rattle.page_relation.specs.Work.Keeping.{IsWorkOf, Leads}
+use Rattle.page_relation.specs.Work.Landing.{Acts}
+use Rattle.page_relation.specs.Work.StepEnds.{start_of, Follows}
+use Rattle.page_relation.specs.Work.Taken.{taken_of, TakenSays}
+use Rattle.page_relation.proofs.Work.Ended.{end_is_landed_law}
+use Rattle.page_relation.proofs.Work.Started.{acting}
+use Rattle.page_relation.proofs.Work.Taking.{taken_is_said_law}
 use Rattle.settle_relation.specs.Arriving.{IsTakenIn, IsWhole, RequestIsKept}
 use Rattle.settle_relation.proofs.Entering.{asked_related, enter_leads}
 use Rattle.settle_relation.proofs.Midway.{IsMidway, reply_midway, start_is_midway}

@@ -22,14 +22,14 @@ use Rattle.node_laws.proofs.Lists.{all_append, all_each, all_weaker}
 use Rattle.cluster_rules.specs.Clusters.{Cluster, node_at, is_up}
 use Rattle.cluster_rules.specs.ClusterStep.{is_taken}
 use Rattle.cluster_rules.specs.Links.{link_at, tail_of}
-use Rattle.entry_laws.specs.Looks.{IsReturned}
-use Rattle.entry_laws.specs.Steps.{IsEntryOf, IsStepTo}
-use Rattle.entry_laws.proofs.Looked.{returning_is_seen_law}
-use Rattle.entry_laws.proofs.Stepped.{return_is_step_law}
-use Rattle.entry_laws.proofs.Writers.{writers_wait_for_nothing_law}
-use Rattle.era_laws.specs.Eras.{era_at, era_in, owner_at}
-use Rattle.link_laws.specs.Coming.{speaks_of, is_coming, coming, sent_to, delivers}
-use Rattle.link_laws.specs.Orders.{how_many}
+use Rattle.page_laws.specs.Entry.Looks.{IsReturned}
+use Rattle.page_laws.specs.Entry.Steps.{IsEntryOf, IsStepTo}
+use Rattle.page_laws.proofs.Entry.Looked.{returning_is_seen_law}
+use Rattle.page_laws.proofs.Entry.Stepped.{return_is_step_law}
+use Rattle.page_laws.proofs.Entry.Writers.{writers_wait_for_nothing_law}
+use Rattle.cluster_laws.specs.Era.Eras.{era_at, era_in, owner_at}
+use Rattle.cluster_laws.specs.Link.Coming.{speaks_of, is_coming, coming, sent_to, delivers}
+use Rattle.cluster_laws.specs.Link.Orders.{how_many}
 use Rattle.page_protocol.specs.Authority.{returning, with_shared}
 use Rattle.page_protocol.specs.State.{Right, NoRight, Returning, Page, has, pick as picked, updn}
 use Rattle.page_protocol.specs.Steps.{here, then}
@@ -38,11 +38,11 @@ use Rattle.page_relation.specs.Messages.{SaysSo, is_answer}
 use Rattle.page_relation.specs.Relation.{MessageIs}
 use Rattle.page_relation.specs.Tables.{IsServed, TableIs, TableIn, TableOf, WaiterIs}
 use Rattle.page_relation.specs.Together.{IsParty}
-use Rattle.work_relation.specs.Events.{IsEntered}
-use Rattle.work_relation.specs.Keeping.{IsWorkOf, Leads}
-use Rattle.work_relation.specs.Landing.{land, Acts}
-use Rattle.work_relation.proofs.Comings.{landed_coming}
-use Rattle.work_relation.proofs.Nodes.{at_node}
+use Rattle.page_relation.specs.Work.Events.{IsEntered}
+use Rattle.page_relation.specs.Work.Keeping.{IsWorkOf, Leads}
+use Rattle.page_relation.specs.Work.Landing.{land, Acts}
+use Rattle.page_relation.proofs.Work.Comings.{landed_coming}
+use Rattle.page_relation.proofs.Work.Nodes.{at_node}
 use Rattle.settle_relation.specs.Arriving.{HaveParties, IsTakenIn, IsWhole, ReturnIsKept}
 use Rattle.settle_relation.specs.Deciding.{rewound, StillAnswers}
 use Rattle.settle_relation.proofs.Counting.{coming_is_not_past_law, filtered, less_all, sent_all}

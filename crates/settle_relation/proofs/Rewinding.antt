@@ -13,18 +13,18 @@ use Rattle.node_rules.specs.Work.{Work}
 use Rattle.node_laws.proofs.Lists.{all_weaker}
 use Rattle.node_laws.proofs.Works.{Base, IsSent}
 use Rattle.cluster_rules.specs.Clusters.{Cluster, view_of_epoch, last_view}
-use Rattle.era_laws.specs.Eras.{era_at, era_in, owner_at}
-use Rattle.era_laws.proofs.Ages.{eras_have_one_owner_law}
-use Rattle.link_laws.specs.Coming.{coming}
-use Rattle.link_laws.specs.EpochLaws.{IsInOrder}
+use Rattle.cluster_laws.specs.Era.Eras.{era_at, era_in, owner_at}
+use Rattle.cluster_laws.proofs.Era.Ages.{eras_have_one_owner_law}
+use Rattle.cluster_laws.specs.Link.Coming.{coming}
+use Rattle.cluster_laws.specs.Link.EpochLaws.{IsInOrder}
 use Rattle.page_protocol.specs.State.{Page}
 use Rattle.page_relation.specs.Tables.{EraIs, IsServed, TableIs, TableIn, TableOf, ReachedBy, ReachedIn}
-use Rattle.work_relation.specs.Keeping.{IsWorkOf}
-use Rattle.work_relation.specs.Landing.{land, Acts}
-use Rattle.work_relation.specs.Unseen.{SameEntry, SameTable, IsUnseen}
-use Rattle.work_relation.proofs.Framing.{entry_self, life_self, page_self, reached_landed}
-use Rattle.work_relation.proofs.Nodes.{at_node}
-use Rattle.work_relation.proofs.Sending.{nothing_is_ahead_law}
+use Rattle.page_relation.specs.Work.Keeping.{IsWorkOf}
+use Rattle.page_relation.specs.Work.Landing.{land, Acts}
+use Rattle.page_relation.specs.Work.Unseen.{SameEntry, SameTable, IsUnseen}
+use Rattle.page_relation.proofs.Work.Framing.{entry_self, life_self, page_self, reached_landed}
+use Rattle.page_relation.proofs.Work.Nodes.{at_node}
+use Rattle.page_relation.proofs.Work.Sending.{nothing_is_ahead_law}
 use Rattle.settle_relation.specs.Deciding.{rewound}
 use Rattle.settle_relation.proofs.Deciding.{put_there, put_here}
 use Rattle.settle_relation.proofs.Midway.{IsMidway}

@@ -19,16 +19,16 @@ use Rattle.node_rules.specs.Work.{Goes, Work, for_each, send}
 use Rattle.node_laws.proofs.Entries.{IsDecision, IsSettled}
 use Rattle.node_laws.proofs.Works.{Base}
 use Rattle.cluster_rules.specs.Clusters.{Cluster}
-use Rattle.entry_laws.specs.Decisions.{IsLocked, IsGiven, IsMarked, Settles, rests, locks, gives, revokes}
-use Rattle.entry_laws.proofs.Decided.{settling_decides_law, settling_keeps_its_version_law}
-use Rattle.link_laws.specs.EpochLaws.{IsInOrder}
+use Rattle.page_laws.specs.Entry.Decisions.{IsLocked, IsGiven, IsMarked, Settles, rests, locks, gives, revokes}
+use Rattle.page_laws.proofs.Entry.Decided.{settling_decides_law, settling_keeps_its_version_law}
+use Rattle.cluster_laws.specs.Link.EpochLaws.{IsInOrder}
 use Rattle.page_protocol.specs.State.{Page}
 use Rattle.page_protocol.specs.Steps.{Reached, here}
 use Rattle.page_protocol.proofs.Keeps.{and_then as runs_then}
-use Rattle.work_relation.specs.Events.{IsEntered}
-use Rattle.work_relation.specs.Keeping.{IsWorkOf, Leads, Keeps}
-use Rattle.work_relation.specs.Landing.{Acts}
-use Rattle.work_relation.proofs.Framing.{unseen_is_kept_law}
+use Rattle.page_relation.specs.Work.Events.{IsEntered}
+use Rattle.page_relation.specs.Work.Keeping.{IsWorkOf, Leads, Keeps}
+use Rattle.page_relation.specs.Work.Landing.{Acts}
+use Rattle.page_relation.proofs.Work.Framing.{unseen_is_kept_law}
 use Rattle.settle_relation.specs.Deciding.{rewound}
 use Rattle.settle_relation.proofs.Carrying.{carry_midway, entry_midway}
 use Rattle.settle_relation.proofs.Deciding.{put_there}

@@ -16,13 +16,13 @@ use Rattle.cluster_rules.specs.ClusterStep.{left_of, step}
 use Rattle.cluster_rules.specs.Links.{link_at}
 use Rattle.cluster_laws.specs.Handed.{IsHanded}
 use Rattle.cluster_laws.specs.Sound.{IsCluster}
-use Rattle.link_laws.specs.EpochLaws.{IsInOrder}
+use Rattle.cluster_laws.specs.Link.EpochLaws.{IsInOrder}
 use Rattle.page_protocol.specs.State.{Page}
 use Rattle.page_protocol.specs.Steps.{Reached}
 use Rattle.page_relation.specs.Relation.{IsPageOf}
 use Rattle.page_relation.specs.Together.{IsParty, WaitsAsAsked}
-use Rattle.work_relation.specs.Events.{IsEntered}
-use Rattle.work_relation.specs.StepEnds.{start_of, Follows}
+use Rattle.page_relation.specs.Work.Events.{IsEntered}
+use Rattle.page_relation.specs.Work.StepEnds.{start_of, Follows}
 
 -- A message that is taken, in a cluster whose page has a state that the machine reaches.
 pub record IsTakenIn (c : Cluster) (e : Event) (n p from : ℕ) (s : NodeState) (m : Message) (blank : List ℕ) (a : Page) : Type 0 where

@@ -6,11 +6,11 @@ use Rattle.pcl_base.specs.declared.message.Message.{Message}
 use Rattle.node_rules.specs.NodeState.{partition}
 use Rattle.node_rules.specs.Work.{Work}
 use Rattle.cluster_rules.specs.Clusters.{Cluster, last_view}
-use Rattle.era_laws.specs.Eras.{era_at}
-use Rattle.link_laws.specs.Coming.{coming}
+use Rattle.cluster_laws.specs.Era.Eras.{era_at}
+use Rattle.cluster_laws.specs.Link.Coming.{coming}
 use Rattle.page_protocol.specs.State.{Page}
-use Rattle.work_relation.specs.Keeping.{IsWorkOf}
-use Rattle.work_relation.specs.Landing.{land, Acts}
+use Rattle.page_relation.specs.Work.Keeping.{IsWorkOf}
+use Rattle.page_relation.specs.Work.Landing.{land, Acts}
 
 -- What comes to another node, inside a step, is of no earlier era than the one that serves, where what was sent in the
 -- step is of an epoch of the views.

@@ -11,16 +11,16 @@ use Rattle.node_rules.specs.LockTable.{LockTable, put_entry}
 use Rattle.node_rules.specs.NodeState.{partition, table_at, put_table}
 use Rattle.node_rules.specs.Work.{Work, with_node}
 use Rattle.cluster_rules.specs.Clusters.{Cluster}
-use Rattle.entry_laws.specs.Decisions.{NoWriterWaits}
-use Rattle.entry_laws.specs.Steps.{IsEntryOf}
-use Rattle.era_laws.specs.Eras.{era_in}
-use Rattle.link_laws.specs.Coming.{coming}
+use Rattle.page_laws.specs.Entry.Decisions.{NoWriterWaits}
+use Rattle.page_laws.specs.Entry.Steps.{IsEntryOf}
+use Rattle.cluster_laws.specs.Era.Eras.{era_in}
+use Rattle.cluster_laws.specs.Link.Coming.{coming}
 use Rattle.page_protocol.specs.State.{Sent, Right, Flying, Returning, Page, In}
 use Rattle.page_relation.specs.Messages.{CountsFor, is_answer}
 use Rattle.page_relation.specs.Relation.{on_shelf}
 use Rattle.page_relation.specs.Tables.{WaiterIs}
-use Rattle.work_relation.specs.Keeping.{IsWorkOf}
-use Rattle.work_relation.specs.Landing.{land, Acts}
+use Rattle.page_relation.specs.Work.Keeping.{IsWorkOf}
+use Rattle.page_relation.specs.Work.Landing.{land, Acts}
 
 -- the work with this entry of the page in its partition's table
 abbrev pub rewound : ℕ → LockTable → ℕ → LockEntry → Work → Work

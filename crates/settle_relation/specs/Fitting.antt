@@ -11,8 +11,8 @@ use Rattle.cluster_rules.specs.Clusters.{Cluster}
 use Rattle.page_protocol.specs.Authority.{WordFits}
 use Rattle.page_protocol.specs.State.{Word, Image, OnDisk, Page}
 use Rattle.page_relation.specs.Messages.{word_of, HasAsked}
-use Rattle.work_relation.specs.Keeping.{IsWorkOf}
-use Rattle.work_relation.specs.Landing.{Acts}
+use Rattle.page_relation.specs.Work.Keeping.{IsWorkOf}
+use Rattle.page_relation.specs.Work.Landing.{Acts}
 
 -- a grant to another node, which told this version, of a page at version v
 abbrev pub word_sent : Pool → ℕ → Option ℕ → ℕ → Word

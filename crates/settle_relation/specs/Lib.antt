@@ -4,3 +4,4 @@ pub mod Deciding
 pub mod Fitting
 pub mod Settling
 pub mod Arriving
+pub mod Grant

@@ -9,9 +9,9 @@ use Rattle.node_rules.specs.OpenTxs.{pending_of}
 use Rattle.node_rules.specs.Work.{Work, work_of_home}
 use Rattle.node_laws.proofs.Works.{Base, IsBase, IsGood}
 use Rattle.cluster_rules.specs.Clusters.{Cluster, node_at, view_of_epoch, last_view}
-use Rattle.moment_laws.specs.Looks.{asked_last}
-use Rattle.work_relation.specs.Landing.{trace_of}
-use Rattle.work_relation.specs.Letting.{CalledBy}
+use Rattle.page_laws.specs.Moment.Looks.{asked_last}
+use Rattle.page_relation.specs.Work.Landing.{trace_of}
+use Rattle.page_relation.specs.Work.Letting.{CalledBy}
 
 -- The numbers b are those of the acting node, which is in the view of its epoch, and whose epoch didn't fall within the
 -- step; the work is good; its pages are those that its calls leave of the disk; and each access that waits is what was

@@ -5,12 +5,12 @@ use Rattle.node_rules.specs.OwnerRule.{settle_page}
 use Rattle.node_rules.specs.Work.{Work, Differs}
 use Rattle.node_laws.proofs.Works.{Base}
 use Rattle.cluster_rules.specs.Clusters.{Cluster}
-use Rattle.link_laws.specs.EpochLaws.{IsInOrder}
+use Rattle.cluster_laws.specs.Link.EpochLaws.{IsInOrder}
 use Rattle.page_protocol.specs.State.{Page}
 use Rattle.page_protocol.specs.Steps.{Reached}
-use Rattle.work_relation.specs.Events.{IsEntered}
-use Rattle.work_relation.specs.Keeping.{IsWorkOf, Keeps}
-use Rattle.work_relation.specs.Landing.{Acts}
+use Rattle.page_relation.specs.Work.Events.{IsEntered}
+use Rattle.page_relation.specs.Work.Keeping.{IsWorkOf, Keeps}
+use Rattle.page_relation.specs.Work.Landing.{Acts}
 use Rattle.settle_relation.specs.Midway.{IsMidway}
 
 -- Any page that is settled keeps the relation of each page.

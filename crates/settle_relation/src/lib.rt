@@ -10,9 +10,14 @@
 //! differ that is read for it. Each law is the clause of a function that does nothing.
 
 mod arriving;
+mod grant;
 mod settling;
 
 pub use arriving::{request_agrees, request_is_kept, return_agrees, return_is_kept};
+pub use grant::{
+    carry_goes, carry_leads, grant_goes_on, grant_is_kept, held_may_access, links_go_on,
+    own_grant_goes, own_grant_leads, perform_is_step, performs_elsewhere, tables_go_on,
+};
 pub use settling::{
     coming_is_not_past, deciding_is_related, settling_agrees, settling_keeps, words_fit,
 };

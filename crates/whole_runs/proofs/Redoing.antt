@@ -1,10 +1,10 @@
 -- Installs and reports, from a cluster of a run.
 use Rattle.std.proofs.Common.{ℕ, List}
 use Rattle.cluster_rules.specs.Clusters.{Cluster}
-use Rattle.closing_runs.specs.Closing.{RedoingKeeps}
-use Rattle.closing_runs.proofs.Left.{redoing_is_left_law}
-use Rattle.install_facts.proofs.Installed.{installs_act_on_law}
-use Rattle.report_events.proofs.Kept.{reports_keep_law}
+use Rattle.whole_runs.specs.Rest.Closing.{RedoingKeeps}
+use Rattle.whole_runs.proofs.Rest.Left.{redoing_is_left_law}
+use Rattle.whole_runs.proofs.Install.Installed.{installs_act_on_law}
+use Rattle.whole_runs.proofs.Report.Kept.{reports_keep_law}
 use Rattle.whole_runs.specs.Runs.{IsKnownRun, StepsKeepPages}
 
 redoing : (blank : List ℕ) (c : Cluster) → IsKnownRun blank c → RedoingKeeps blank c

@@ -1,5 +1,0 @@
-use Rattle.access_relation.proofs.Stepped.{reading_under_is_step_law}
-use Rattle.access_relation.proofs.steps.reading_under_is_step.Goals as goal
-
-pub returns : goal.returns
-returns c = reading_under_is_step_law

@@ -1,5 +1,0 @@
-use Rattle.account_entries.proofs.Changed.{purging_is_out_law}
-use Rattle.account_entries.proofs.laws.purging_is_out.Goals as goal
-
-pub returns : goal.returns
-returns c = purging_is_out_law

@@ -1,0 +1,5 @@
+use Rattle.account_relation.proofs.Entry.Changed.{ending_is_wanted_law}
+use Rattle.account_relation.proofs.entry.laws.ending_is_wanted.Goals as goal
+
+pub returns : goal.returns
+returns c = ending_is_wanted_law

@@ -1,0 +1,5 @@
+use Rattle.account_relation.proofs.Entry.Changed.{returning_is_out_law}
+use Rattle.account_relation.proofs.entry.laws.returning_is_out.Goals as goal
+
+pub returns : goal.returns
+returns c = returning_is_out_law

@@ -1,0 +1,5 @@
+use Rattle.account_relation.proofs.Grant.Caused.{decisions_have_causes_law}
+use Rattle.account_relation.proofs.grant.laws.decisions_have_causes.Goals as goal
+
+pub returns : goal.returns
+returns c = decisions_have_causes_law

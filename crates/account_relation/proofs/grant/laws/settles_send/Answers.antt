@@ -1,0 +1,5 @@
+use Rattle.account_relation.proofs.Grant.Carried.{settles_send_law}
+use Rattle.account_relation.proofs.grant.laws.settles_send.Goals as goal
+
+pub returns : goal.returns
+returns c = settles_send_law

@@ -1,0 +1,5 @@
+use Rattle.account_relation.proofs.Step.Accounting.{steps_without_locks_law}
+use Rattle.account_relation.proofs.step.accounts.steps_without_locks.Goals as goal
+
+pub returns : goal.returns
+returns c = steps_without_locks_law

@@ -1,8 +1,0 @@
-use mathlib.Core.Path.{refl}
-use Rattle.cluster_rules.proofs.Opened.{cluster_rules}
-use Rattle.ask_laws.specs.Asked.{asked_last}
-use Rattle.ask_laws.proofs.ask_rows.row_of_asked.Goals as goal
-
-pub returns : goal.returns
-unfolding cluster_rules asked_last
-returns c = record { written = refl; by_another = refl; refused = refl; granted = refl; read = refl; waits = refl }

@@ -1,0 +1,5 @@
+use Rattle.cluster_facts.proofs.Known.Joined.{opening_has_known_births_law}
+use Rattle.cluster_facts.proofs.known.births.opening_has_known_births.Goals as goal
+
+pub returns : goal.returns
+returns c = opening_has_known_births_law

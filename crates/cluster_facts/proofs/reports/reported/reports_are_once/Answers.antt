@@ -1,0 +1,5 @@
+use Rattle.cluster_facts.proofs.Reports.Awaited.{reports_are_once_law}
+use Rattle.cluster_facts.proofs.reports.reported.reports_are_once.Goals as goal
+
+pub returns : goal.returns
+returns c = reports_are_once_law

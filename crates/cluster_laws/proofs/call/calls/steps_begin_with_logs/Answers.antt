@@ -1,0 +1,5 @@
+use Rattle.cluster_laws.proofs.Call.Events.{steps_begin_with_logs_law}
+use Rattle.cluster_laws.proofs.call.calls.steps_begin_with_logs.Goals as goal
+
+pub returns : goal.returns
+returns c = steps_begin_with_logs_law

@@ -1,0 +1,5 @@
+use Rattle.cluster_laws.proofs.Era.Counted.{counting_is_of_view_law}
+use Rattle.cluster_laws.proofs.era.counts.counting_is_of_view.Goals as goal
+
+pub returns : goal.returns
+returns c = counting_is_of_view_law

@@ -1,0 +1,5 @@
+use Rattle.cluster_laws.proofs.Era.Ages.{eras_go_on_law}
+use Rattle.cluster_laws.proofs.era.eras.eras_go_on.Goals as goal
+
+pub returns : goal.returns
+returns c = eras_go_on_law

@@ -1,0 +1,5 @@
+use Rattle.cluster_laws.proofs.Era.Lives.{members_know_eras_law}
+use Rattle.cluster_laws.proofs.era.eras.members_know_eras.Goals as goal
+
+pub returns : goal.returns
+returns c = members_know_eras_law

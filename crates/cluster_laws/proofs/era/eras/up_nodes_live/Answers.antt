@@ -1,0 +1,5 @@
+use Rattle.cluster_laws.proofs.Era.Lives.{up_nodes_live_law}
+use Rattle.cluster_laws.proofs.era.eras.up_nodes_live.Goals as goal
+
+pub returns : goal.returns
+returns c = up_nodes_live_law

@@ -1,0 +1,5 @@
+use Rattle.cluster_laws.proofs.Link.Linked.{cleared_links_law}
+use Rattle.cluster_laws.proofs.link.links.cleared_links.Goals as goal
+
+pub returns : goal.returns
+returns c = cleared_links_law

@@ -1,0 +1,5 @@
+use Rattle.cluster_laws.proofs.Link.Ordered.{ordered_from_lower_law}
+use Rattle.cluster_laws.proofs.link.orders.ordered_from_lower.Goals as goal
+
+pub returns : goal.returns
+returns c = ordered_from_lower_law

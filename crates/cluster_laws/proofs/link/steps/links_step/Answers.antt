@@ -1,0 +1,5 @@
+use Rattle.cluster_laws.proofs.Link.Stepped.{links_step_law}
+use Rattle.cluster_laws.proofs.link.steps.links_step.Goals as goal
+
+pub returns : goal.returns
+returns c = links_step_law

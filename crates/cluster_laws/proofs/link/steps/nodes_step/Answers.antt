@@ -1,0 +1,5 @@
+use Rattle.cluster_laws.proofs.Link.Nodes.{nodes_step_law}
+use Rattle.cluster_laws.proofs.link.steps.nodes_step.Goals as goal
+
+pub returns : goal.returns
+returns c = nodes_step_law

@@ -1,0 +1,5 @@
+use Rattle.cluster_laws.proofs.Link.Rising.{opening_is_in_order_law}
+use Rattle.cluster_laws.proofs.link.steps.opening_is_in_order.Goals as goal
+
+pub returns : goal.returns
+returns c = opening_is_in_order_law

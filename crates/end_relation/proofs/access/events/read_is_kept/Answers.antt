@@ -1,0 +1,5 @@
+use Rattle.end_relation.proofs.Access.Whole.{read_is_kept_law}
+use Rattle.end_relation.proofs.access.events.read_is_kept.Goals as goal
+
+pub returns : goal.returns
+returns c = read_is_kept_law

@@ -1,0 +1,5 @@
+use Rattle.end_relation.proofs.Release.Releasing.{release_is_kept_law}
+use Rattle.end_relation.proofs.release.releases.release_is_kept.Goals as goal
+
+pub returns : goal.returns
+returns c = release_is_kept_law

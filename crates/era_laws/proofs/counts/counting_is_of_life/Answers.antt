@@ -1,5 +1,0 @@
-use Rattle.era_laws.proofs.Counted.{counting_is_of_life_law}
-use Rattle.era_laws.proofs.counts.counting_is_of_life.Goals as goal
-
-pub returns : goal.returns
-returns c = counting_is_of_life_law

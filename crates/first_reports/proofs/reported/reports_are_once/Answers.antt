@@ -1,5 +1,0 @@
-use Rattle.first_reports.proofs.Awaited.{reports_are_once_law}
-use Rattle.first_reports.proofs.reported.reports_are_once.Goals as goal
-
-pub returns : goal.returns
-returns c = reports_are_once_law

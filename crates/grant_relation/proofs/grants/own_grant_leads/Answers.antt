@@ -1,5 +1,0 @@
-use Rattle.grant_relation.proofs.Accepting.{own_grant_leads_law}
-use Rattle.grant_relation.proofs.grants.own_grant_leads.Goals as goal
-
-pub returns : goal.returns
-returns c = own_grant_leads_law

@@ -1,8 +1,0 @@
-//! The law of new accesses.
-
-ghost use Rattle.known_births.specs.Accesses.{NewAccessesAreHeld};
-
-/// Who first accesses a page in a step holds it once the step is done.
-pub fn new_accesses_are_held()
-    ensures { NewAccessesAreHeld }
-{}

@@ -1,8 +1,0 @@
-use mathlib.Core.Path.{refl}
-use Rattle.cluster_rules.proofs.Opened.{cluster_rules}
-use Rattle.link_laws.specs.Coming.{coming}
-use Rattle.link_laws.proofs.link_rows.row_of_speaking.Goals as goal
-
-pub returns : goal.returns
-unfolding cluster_rules coming
-returns c = record { of_it = refl; beside_it = refl; elsewhere = refl }

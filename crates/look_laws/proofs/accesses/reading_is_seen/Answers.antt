@@ -1,5 +1,0 @@
-use Rattle.look_laws.proofs.Accessing.{reading_is_seen_law}
-use Rattle.look_laws.proofs.accesses.reading_is_seen.Goals as goal
-
-pub returns : goal.returns
-returns c = reading_is_seen_law

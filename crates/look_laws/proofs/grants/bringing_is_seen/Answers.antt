@@ -1,8 +1,0 @@
-use Rattle.look_laws.proofs.Granting.{bringing_is_seen_law, bringing_goes_law}
-use Rattle.look_laws.proofs.grants.bringing_is_seen.Goals as goal
-
-pub returns-clause-seen : goal.returns-clause-seen
-returns-clause-seen c = bringing_is_seen_law
-
-pub returns-clause-goes : goal.returns-clause-goes
-returns-clause-goes c = bringing_goes_law

@@ -1,0 +1,5 @@
+use Rattle.page_laws.proofs.Entry.Looked.{asking_is_seen_law}
+use Rattle.page_laws.proofs.entry.looks.asking_is_seen.Goals as goal
+
+pub returns : goal.returns
+returns c = asking_is_seen_law

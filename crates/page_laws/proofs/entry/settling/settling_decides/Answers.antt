@@ -1,0 +1,5 @@
+use Rattle.page_laws.proofs.Entry.Decided.{settling_decides_law}
+use Rattle.page_laws.proofs.entry.settling.settling_decides.Goals as goal
+
+pub returns : goal.returns
+returns c = settling_decides_law

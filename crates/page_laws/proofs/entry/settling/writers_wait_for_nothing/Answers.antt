@@ -1,0 +1,5 @@
+use Rattle.page_laws.proofs.Entry.Writers.{writers_wait_for_nothing_law}
+use Rattle.page_laws.proofs.entry.settling.writers_wait_for_nothing.Goals as goal
+
+pub returns : goal.returns
+returns c = writers_wait_for_nothing_law

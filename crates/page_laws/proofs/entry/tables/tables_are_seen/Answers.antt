@@ -1,0 +1,5 @@
+use Rattle.page_laws.proofs.Entry.Tabled.{tables_are_seen_law}
+use Rattle.page_laws.proofs.entry.tables.tables_are_seen.Goals as goal
+
+pub returns : goal.returns
+returns c = tables_are_seen_law

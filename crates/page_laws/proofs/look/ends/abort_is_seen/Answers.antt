@@ -1,0 +1,5 @@
+use Rattle.page_laws.proofs.Look.Closing.{abort_is_seen_law}
+use Rattle.page_laws.proofs.look.ends.abort_is_seen.Goals as goal
+
+pub returns : goal.returns
+returns c = abort_is_seen_law

@@ -1,0 +1,5 @@
+use Rattle.page_laws.proofs.Look.Granting.{arrival_is_seen_law}
+use Rattle.page_laws.proofs.look.grants.arrival_is_seen.Goals as goal
+
+pub returns : goal.returns
+returns c = arrival_is_seen_law

@@ -1,0 +1,5 @@
+use Rattle.page_laws.proofs.Look.Granting.{grant_is_seen_law}
+use Rattle.page_laws.proofs.look.grants.grant_is_seen.Goals as goal
+
+pub returns : goal.returns
+returns c = grant_is_seen_law

@@ -1,0 +1,5 @@
+use Rattle.page_laws.proofs.Moment.Entries.{reply_adds_law}
+use Rattle.page_laws.proofs.moment.adds.reply_adds.Goals as goal
+
+pub returns : goal.returns
+returns c = reply_adds_law

@@ -1,0 +1,5 @@
+use Rattle.page_laws.proofs.Moment.Committing.{now_begins_law}
+use Rattle.page_laws.proofs.moment.commit.now_begins.Goals as goal
+
+pub returns : goal.returns
+returns c = now_begins_law

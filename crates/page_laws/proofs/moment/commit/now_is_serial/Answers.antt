@@ -1,0 +1,5 @@
+use Rattle.page_laws.proofs.Moment.Committing.{now_is_serial_law}
+use Rattle.page_laws.proofs.moment.commit.now_is_serial.Goals as goal
+
+pub returns : goal.returns
+returns c = now_is_serial_law

@@ -1,0 +1,5 @@
+use Rattle.page_laws.proofs.Moment.AsSteps.{commits_are_committing_law}
+use Rattle.page_laws.proofs.moment.machine.commits_are_committing.Goals as goal
+
+pub returns : goal.returns
+returns c = commits_are_committing_law

@@ -1,0 +1,5 @@
+use Rattle.page_laws.proofs.Moment.Growing.{ask_tells_law}
+use Rattle.page_laws.proofs.moment.tells.ask_tells.Goals as goal
+
+pub returns : goal.returns
+returns c = ask_tells_law

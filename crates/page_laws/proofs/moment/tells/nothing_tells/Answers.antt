@@ -1,0 +1,5 @@
+use Rattle.page_laws.proofs.Moment.Growing.{nothing_tells_law}
+use Rattle.page_laws.proofs.moment.tells.nothing_tells.Goals as goal
+
+pub returns : goal.returns
+returns c = nothing_tells_law

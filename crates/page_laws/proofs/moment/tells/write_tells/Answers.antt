@@ -1,0 +1,5 @@
+use Rattle.page_laws.proofs.Moment.Growing.{write_tells_law}
+use Rattle.page_laws.proofs.moment.tells.write_tells.Goals as goal
+
+pub returns : goal.returns
+returns c = write_tells_law

@@ -1,0 +1,5 @@
+use Rattle.page_laws.proofs.Storage.AsSteps.{cuts_are_cutting_law}
+use Rattle.page_laws.proofs.storage.machine.cuts_are_cutting.Goals as goal
+
+pub returns : goal.returns
+returns c = cuts_are_cutting_law

@@ -1,0 +1,5 @@
+use Rattle.page_laws.proofs.Storage.Durables.{kept_is_durable_law}
+use Rattle.page_laws.proofs.storage.redone.kept_is_durable.Goals as goal
+
+pub returns : goal.returns
+returns c = kept_is_durable_law

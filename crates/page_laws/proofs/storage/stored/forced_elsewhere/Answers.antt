@@ -1,0 +1,5 @@
+use Rattle.page_laws.proofs.Storage.Calls.{forced_elsewhere_law}
+use Rattle.page_laws.proofs.storage.stored.forced_elsewhere.Goals as goal
+
+pub returns : goal.returns
+returns c = forced_elsewhere_law

@@ -1,0 +1,5 @@
+use Rattle.page_laws.proofs.Storage.Calls.{other_logs_stay_law}
+use Rattle.page_laws.proofs.storage.stored.other_logs_stay.Goals as goal
+
+pub returns : goal.returns
+returns c = other_logs_stay_law

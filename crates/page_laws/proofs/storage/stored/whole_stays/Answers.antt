@@ -1,0 +1,5 @@
+use Rattle.page_laws.proofs.Storage.Calls.{whole_stays_law}
+use Rattle.page_laws.proofs.storage.stored.whole_stays.Goals as goal
+
+pub returns : goal.returns
+returns c = whole_stays_law

@@ -1,0 +1,5 @@
+use Rattle.page_laws.proofs.Storage.Calls.{written_elsewhere_law}
+use Rattle.page_laws.proofs.storage.stored.written_elsewhere.Goals as goal
+
+pub returns : goal.returns
+returns c = written_elsewhere_law

@@ -1,0 +1,5 @@
+use Rattle.page_laws.proofs.Written.Logging.{commit_is_elsewhere_law}
+use Rattle.page_laws.proofs.written.record.commit_is_elsewhere.Goals as goal
+
+pub returns : goal.returns
+returns c = commit_is_elsewhere_law

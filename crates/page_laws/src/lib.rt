@@ -1,0 +1,117 @@
+#![tactic(auto)]
+
+//! What one page is seen to be, part by part of a cluster.
+//!
+//! What is stored of it and what stops and redo make of that (`storage`); what a trace tells of it after one reply more
+//! (`moment`); what a transaction wrote of it and what its commit logs (`written`); what is seen of its lock entry (`entry`)
+//! and of a home's copy of it (`look`). Beside each stand the steps of the machine of one page that such a change is. Each
+//! law is the clause of a function that does nothing.
+
+mod entry;
+mod look;
+mod moment;
+mod storage;
+mod written;
+
+pub use entry::asking_is_seen;
+pub use entry::decisions_are_seen;
+pub use entry::decisions_are_steps;
+pub use entry::ending_is_seen;
+pub use entry::gathering_is_seen;
+pub use entry::new_tables_are_idle;
+pub use entry::purging_is_seen;
+pub use entry::releases_are_steps;
+pub use entry::reporting_is_seen;
+pub use entry::returning_is_seen;
+pub use entry::returns_are_steps;
+pub use entry::row_of_decisions;
+pub use entry::row_of_looks;
+pub use entry::settling_decides;
+pub use entry::settling_keeps_its_version;
+pub use entry::tables_are_seen;
+pub use entry::writers_wait_for_nothing;
+pub use look::abort_is_seen;
+pub use look::access_is_seen;
+pub use look::arrival_is_seen;
+pub use look::bringing_is_seen;
+pub use look::change_is_seen;
+pub use look::cleaning_is_seen;
+pub use look::commit_is_seen;
+pub use look::frames_are_seen;
+pub use look::giving_up_is_seen;
+pub use look::grant_is_seen;
+pub use look::leaving_is_seen;
+pub use look::locking_is_seen;
+pub use look::reading_is_seen;
+pub use look::reading_under_is_seen;
+pub use look::revoking_is_seen;
+pub use look::row_of_a_home;
+pub use look::shelves_are_seen;
+pub use look::spending_is_seen;
+pub use look::taking_over_is_seen;
+pub use look::waiting_is_seen;
+pub use look::writing_back_is_seen;
+pub use look::writing_is_seen;
+pub use moment::ask_tells;
+pub use moment::commit_runs;
+pub use moment::commit_tells;
+pub use moment::commits_are_committing;
+pub use moment::empty_tells;
+pub use moment::event_adds;
+pub use moment::halt_adds;
+pub use moment::nothing_tells;
+pub use moment::now_begins;
+pub use moment::now_has_all_pages;
+pub use moment::now_has_pages;
+pub use moment::now_is_serial;
+pub use moment::pages_are_now;
+pub use moment::read_tells;
+pub use moment::reads_are_reading;
+pub use moment::refused_adds_nothing;
+pub use moment::reply_adds;
+pub use moment::row_of_accesses;
+pub use moment::row_of_now;
+pub use moment::sent_adds_nothing;
+pub use moment::write_tells;
+pub use moment::writes_are_left;
+pub use moment::writes_are_writing;
+pub use storage::commits_are_forced;
+pub use storage::current_is_redone;
+pub use storage::current_stands;
+pub use storage::cut_is_found;
+pub use storage::cut_takes_old;
+pub use storage::cuts_are_cutting;
+pub use storage::forced_elsewhere;
+pub use storage::forced_is_logged;
+pub use storage::fresh_is_stored;
+pub use storage::greatest_tells_entry;
+pub use storage::greatest_tells_next;
+pub use storage::kept_is_durable;
+pub use storage::other_logs_stay;
+pub use storage::pages_are_written;
+pub use storage::ranges_are_put;
+pub use storage::records_are_old;
+pub use storage::redo_is_reached;
+pub use storage::redone_is_current;
+pub use storage::redone_is_reached;
+pub use storage::row_of_changed_logs;
+pub use storage::row_of_rising;
+pub use storage::row_of_stored_pages;
+pub use storage::stopped_leaves;
+pub use storage::stops_leave;
+pub use storage::stored_is_read;
+pub use storage::torn_is_not_logged;
+pub use storage::trimmed_is_stored;
+pub use storage::whole_is_its_length;
+pub use storage::whole_stays;
+pub use storage::written_elsewhere;
+pub use storage::written_is_stored;
+pub use written::commit_is_elsewhere;
+pub use written::commit_is_logged;
+pub use written::logged_is_put;
+pub use written::nothing_differs;
+pub use written::piece_differs;
+pub use written::piece_is_put;
+pub use written::record_can_be_written;
+pub use written::record_has_written;
+pub use written::row_of_runs;

@@ -1,0 +1,5 @@
+use Rattle.page_relation.proofs.Loss.Quiet.{armed_is_related_law}
+use Rattle.page_relation.proofs.loss.laws.armed_is_related.Goals as goal
+
+pub returns : goal.returns
+returns c = armed_is_related_law

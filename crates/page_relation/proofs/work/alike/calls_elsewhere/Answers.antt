@@ -1,0 +1,5 @@
+use Rattle.page_relation.proofs.Work.Quiet.{calls_elsewhere_law}
+use Rattle.page_relation.proofs.work.alike.calls_elsewhere.Goals as goal
+
+pub returns : goal.returns
+returns c = calls_elsewhere_law

@@ -1,0 +1,5 @@
+use Rattle.page_relation.proofs.Work.Granting.{grants_elsewhere_law}
+use Rattle.page_relation.proofs.work.alike.grants_elsewhere.Goals as goal
+
+pub returns : goal.returns
+returns c = grants_elsewhere_law

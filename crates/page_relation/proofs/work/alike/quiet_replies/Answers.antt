@@ -1,0 +1,5 @@
+use Rattle.page_relation.proofs.Work.Quiet.{quiet_replies_law}
+use Rattle.page_relation.proofs.work.alike.quiet_replies.Goals as goal
+
+pub returns : goal.returns
+returns c = quiet_replies_law

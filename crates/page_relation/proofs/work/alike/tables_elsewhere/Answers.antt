@@ -1,0 +1,5 @@
+use Rattle.page_relation.proofs.Work.Quiet.{tables_elsewhere_law}
+use Rattle.page_relation.proofs.work.alike.tables_elsewhere.Goals as goal
+
+pub returns : goal.returns
+returns c = tables_elsewhere_law

@@ -1,0 +1,5 @@
+use Rattle.page_relation.proofs.Work.Quiet.{writes_elsewhere_law}
+use Rattle.page_relation.proofs.work.alike.writes_elsewhere.Goals as goal
+
+pub returns : goal.returns
+returns c = writes_elsewhere_law

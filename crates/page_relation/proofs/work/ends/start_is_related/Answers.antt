@@ -1,0 +1,5 @@
+use Rattle.page_relation.proofs.Work.Started.{start_is_related_law}
+use Rattle.page_relation.proofs.work.ends.start_is_related.Goals as goal
+
+pub returns : goal.returns
+returns c = start_is_related_law

@@ -1,0 +1,5 @@
+use Rattle.page_relation.proofs.Work.Storing.{back_keeps_law}
+use Rattle.page_relation.proofs.work.events.back_keeps.Goals as goal
+
+pub returns : goal.returns
+returns c = back_keeps_law

@@ -1,0 +1,5 @@
+use Rattle.page_relation.proofs.Work.Beginning.{begin_is_kept_law}
+use Rattle.page_relation.proofs.work.events.begin_is_kept.Goals as goal
+
+pub returns : goal.returns
+returns c = begin_is_kept_law

@@ -1,0 +1,5 @@
+use Rattle.page_relation.proofs.Work.Letting.{letting_go_leads_law}
+use Rattle.page_relation.proofs.work.events.letting_go_leads.Goals as goal
+
+pub returns : goal.returns
+returns c = letting_go_leads_law

@@ -1,0 +1,5 @@
+use Rattle.page_relation.proofs.Work.Landed.{landing_is_seen_law}
+use Rattle.page_relation.proofs.work.frames.landing_is_seen.Goals as goal
+
+pub returns : goal.returns
+returns c = landing_is_seen_law

@@ -1,0 +1,5 @@
+use Rattle.page_relation.proofs.Work.Sending.{nothing_is_ahead_law}
+use Rattle.page_relation.proofs.work.sends.nothing_is_ahead.Goals as goal
+
+pub returns : goal.returns
+returns c = nothing_is_ahead_law

@@ -1,0 +1,5 @@
+use Rattle.related_runs.proofs.Between.Events.{events_are_all_law}
+use Rattle.related_runs.proofs.between.kinds.events_are_all.Goals as goal
+
+pub returns : goal.returns
+returns c = events_are_all_law

@@ -1,0 +1,5 @@
+use Rattle.related_runs.proofs.Locks.Stepped.{steps_have_used_law}
+use Rattle.related_runs.proofs.locks.used.steps_have_used.Goals as goal
+
+pub returns : goal.returns
+returns c = steps_have_used_law

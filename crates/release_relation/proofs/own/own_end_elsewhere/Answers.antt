@@ -1,5 +1,0 @@
-use Rattle.release_relation.proofs.Laws.{own_end_elsewhere_law}
-use Rattle.release_relation.proofs.own.own_end_elsewhere.Goals as goal
-
-pub returns : goal.returns
-returns c = own_end_elsewhere_law

@@ -1,0 +1,5 @@
+use Rattle.report_relation.proofs.Bury.Awaiting.{gathered_is_whole_law}
+use Rattle.report_relation.proofs.bury.gathered.gathered_is_whole.Goals as goal
+
+pub returns : goal.returns
+returns c = gathered_is_whole_law

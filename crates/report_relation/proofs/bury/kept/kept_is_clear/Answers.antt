@@ -1,0 +1,5 @@
+use Rattle.report_relation.proofs.Bury.KeptServed.{kept_is_clear_law}
+use Rattle.report_relation.proofs.bury.kept.kept_is_clear.Goals as goal
+
+pub returns : goal.returns
+returns c = kept_is_clear_law

@@ -1,0 +1,5 @@
+use Rattle.report_relation.proofs.Bury.Runs.{burial_is_run_law}
+use Rattle.report_relation.proofs.bury.running.burial_is_run.Goals as goal
+
+pub returns : goal.returns
+returns c = burial_is_run_law

@@ -1,0 +1,5 @@
+use Rattle.report_relation.proofs.Bury.KnownWhole.{known_is_whole_law}
+use Rattle.report_relation.proofs.bury.whole.known_is_whole.Goals as goal
+
+pub returns : goal.returns
+returns c = known_is_whole_law

@@ -1,0 +1,5 @@
+use Rattle.report_relation.proofs.Bury.Ahead.{nobody_is_ahead_law}
+use Rattle.report_relation.proofs.bury.whole.nobody_is_ahead.Goals as goal
+
+pub returns : goal.returns
+returns c = nobody_is_ahead_law

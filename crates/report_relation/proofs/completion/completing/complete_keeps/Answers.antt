@@ -1,0 +1,5 @@
+use Rattle.report_relation.proofs.Completion.Completed.{complete_keeps_law}
+use Rattle.report_relation.proofs.completion.completing.complete_keeps.Goals as goal
+
+pub returns : goal.returns
+returns c = complete_keeps_law

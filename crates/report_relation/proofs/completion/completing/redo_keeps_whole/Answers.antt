@@ -1,0 +1,5 @@
+use Rattle.report_relation.proofs.Completion.Looks.{redo_keeps_whole_law}
+use Rattle.report_relation.proofs.completion.completing.redo_keeps_whole.Goals as goal
+
+pub returns : goal.returns
+returns c = redo_keeps_whole_law

@@ -1,0 +1,5 @@
+use Rattle.settle_relation.proofs.Grant.Accepting.{own_grant_goes_law}
+use Rattle.settle_relation.proofs.grant.grants.own_grant_goes.Goals as goal
+
+pub returns : goal.returns
+returns c = own_grant_goes_law

@@ -1,0 +1,5 @@
+use Rattle.whole_runs.proofs.Report.Known.{reports_may_be_taken_law}
+use Rattle.whole_runs.proofs.report.reports.reports_may_be_taken.Goals as goal
+
+pub returns : goal.returns
+returns c = reports_may_be_taken_law

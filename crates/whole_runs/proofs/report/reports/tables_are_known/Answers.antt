@@ -1,0 +1,5 @@
+use Rattle.whole_runs.proofs.Report.Known.{tables_are_known_law}
+use Rattle.whole_runs.proofs.report.reports.tables_are_known.Goals as goal
+
+pub returns : goal.returns
+returns c = tables_are_known_law
