@@ -14,7 +14,7 @@ pub mod SeenSteps
 pub mod Following
 pub mod SeenActs
 pub mod SeenKinds
-pub mod Settle
-pub mod Entry
-pub mod Grant
-pub mod Step
+pub mod SettleParts
+pub mod EntryParts
+pub mod GrantParts
+pub mod StepParts

@@ -1,11 +1,11 @@
 -- All facts of clusters together.
-use Rattle.cluster_facts.proofs.Waiting.Carried.{opening_has_reached_law, steps_keep_reached_law}
-use Rattle.cluster_facts.proofs.Table.Carried.{opening_has_table_lives_law, steps_have_table_lives_law}
-use Rattle.cluster_facts.proofs.Known.Joined.{opening_has_known_births_law, steps_have_known_births_law}
-use Rattle.cluster_facts.proofs.Reports.NoRights.{opening_has_no_rights_law, steps_keep_unviewed_law}
-use Rattle.cluster_facts.proofs.Reports.Opened.{opening_has_reports_law}
-use Rattle.cluster_facts.proofs.Reports.Awaited.{steps_keep_reports_law}
-use Rattle.cluster_facts.proofs.Reports.Waiting.{opening_has_marked_law, steps_keep_marked_law}
+use Rattle.cluster_facts.proofs.WaitingParts.Carried.{opening_has_reached_law, steps_keep_reached_law}
+use Rattle.cluster_facts.proofs.TableParts.Carried.{opening_has_table_lives_law, steps_have_table_lives_law}
+use Rattle.cluster_facts.proofs.KnownParts.Joined.{opening_has_known_births_law, steps_have_known_births_law}
+use Rattle.cluster_facts.proofs.ReportsParts.NoRights.{opening_has_no_rights_law, steps_keep_unviewed_law}
+use Rattle.cluster_facts.proofs.ReportsParts.Opened.{opening_has_reports_law}
+use Rattle.cluster_facts.proofs.ReportsParts.Awaited.{steps_keep_reports_law}
+use Rattle.cluster_facts.proofs.ReportsParts.Waiting.{opening_has_marked_law, steps_keep_marked_law}
 use Rattle.cluster_facts.specs.Facts.{HaveFacts, OpeningHasFacts, StepsHaveFacts}
 
 pub opening_has_facts_law : OpeningHasFacts

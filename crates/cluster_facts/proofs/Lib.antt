@@ -1,5 +1,5 @@
 pub mod Joined
-pub mod Waiting
-pub mod Table
-pub mod Reports
-pub mod Known
+pub mod WaitingParts
+pub mod TableParts
+pub mod ReportsParts
+pub mod KnownParts

@@ -12,7 +12,7 @@ pub mod Counts
 pub mod SoundRows
 pub mod Numbered
 pub mod Moving
-pub mod Era
-pub mod Link
-pub mod Call
-pub mod Ask
+pub mod EraParts
+pub mod LinkParts
+pub mod CallParts
+pub mod AskParts

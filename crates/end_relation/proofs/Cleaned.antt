@@ -14,8 +14,8 @@ use Rattle.home_laws.proofs.Tests.{number_equal}
 use Rattle.page_laws.specs.Look.Buffers.{IsCleaned}
 use Rattle.page_laws.specs.Look.Ends.{version_of_right, IsWithoutTx}
 use Rattle.page_laws.specs.Look.Parts.{SameBesideCopies}
-use Rattle.page_laws.proofs.Look.Alike.{beside_self, beside_then}
-use Rattle.page_laws.proofs.Look.Copies.{cleaning_is_seen_law}
+use Rattle.page_laws.proofs.LookParts.Alike.{beside_self, beside_then}
+use Rattle.page_laws.proofs.LookParts.Copies.{cleaning_is_seen_law}
 use Rattle.end_relation.specs.Over.{changes}
 
 -- what is seen of a work where the changed copies of partitions that aren't served are clean

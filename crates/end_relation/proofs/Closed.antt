@@ -29,11 +29,11 @@ use Rattle.page_relation.specs.Looks.{shelf_of, shelf_in}
 use Rattle.page_relation.specs.Messages.{ChangeHas, WaitIs, SaysSo, AreOnce}
 use Rattle.page_relation.specs.Relation.{HomesAre, on_shelf, NodesAre, TablesAre, LinksAre, MessageIs, IsPageOf}
 use Rattle.page_relation.specs.Tables.{WaiterIs, IsServed, IsRebuilt, TableIs, TableIn, TableOf, ReachedIn, serves_in}
-use Rattle.page_relation.proofs.Loss.Counting.{both_all, coming_eras}
-use Rattle.page_relation.proofs.Loss.Lost.{HomeAfter, after_ended, asked_after}
+use Rattle.page_relation.proofs.LossParts.Counting.{both_all, coming_eras}
+use Rattle.page_relation.proofs.LossParts.Lost.{HomeAfter, after_ended, asked_after}
 use Rattle.page_relation.specs.Work.Landing.{land, Acts}
-use Rattle.page_relation.proofs.Work.Framing.{reached_same, reached_landed}
-use Rattle.page_relation.proofs.Work.Nodes.{of_node}
+use Rattle.page_relation.proofs.WorkParts.Framing.{reached_same, reached_landed}
+use Rattle.page_relation.proofs.WorkParts.Nodes.{of_node}
 use Rattle.end_relation.proofs.Closing.{Part, with_part, IsOver, IsEndOf, not_this, stands_over, kinds_over, images_over, standing_over}
 
 module _ (blank : List ℕ) (c : Cluster) (e : Event) (n p : ℕ) (t : TxId) (s : NodeState) (x : Work) (a : Page) (k : Part) (acts : Acts c n) (up : node_at c n ≡ Some s)

@@ -20,10 +20,10 @@ use Rattle.page_protocol.specs.Bytes.{Copy, Ranges, Access}
 use Rattle.page_protocol.specs.State.{Home, Fresh, Asking, Holding, HoldingAsks, Reading, ReadingAsks, Ended, Gone, Page, IsClosed}
 use Rattle.page_relation.specs.Homes.{Stands, StandsIn, KindFits, KindIn, image_of, ImageIn, is_unborn, wait_on}
 use Rattle.page_relation.specs.Relation.{HistoryIs, CopiesAre}
-use Rattle.page_relation.proofs.Loss.Lost.{HomeAfter}
+use Rattle.page_relation.proofs.LossParts.Lost.{HomeAfter}
 use Rattle.page_relation.specs.Work.Landing.{land, trace_of, disk_of}
 use Rattle.page_relation.specs.Work.Unseen.{SameStanding}
-use Rattle.page_relation.proofs.Work.Nodes.{stands_as}
+use Rattle.page_relation.proofs.WorkParts.Nodes.{stands_as}
 
 -- the parts of a page's state that the end of a transaction may change
 pub record Part : Type 0 where

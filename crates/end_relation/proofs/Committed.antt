@@ -13,13 +13,13 @@ use Rattle.cluster_laws.proofs.Steps.{up_is_member_law}
 use Rattle.page_laws.specs.Moment.Looks.{accesses_in, HasPage, with_entry}
 use Rattle.page_laws.specs.Moment.Machine.{CommitStep, AreCurrent}
 use Rattle.page_laws.specs.Moment.Tells.{TellsCommit}
-use Rattle.page_laws.proofs.Moment.AsSteps.{commits_are_committing_law}
-use Rattle.page_laws.proofs.Moment.Committing.{pages_are_now_law, now_has_pages_law}
-use Rattle.page_laws.proofs.Moment.Growing.{commit_tells_law}
+use Rattle.page_laws.proofs.MomentParts.AsSteps.{commits_are_committing_law}
+use Rattle.page_laws.proofs.MomentParts.Committing.{pages_are_now_law, now_has_pages_law}
+use Rattle.page_laws.proofs.MomentParts.Growing.{commit_tells_law}
 use Rattle.page_protocol.specs.State.{Page, current}
 use Rattle.page_relation.specs.Together.{IsRelated}
 use Rattle.page_relation.specs.Loss.Writes.{ScriptsFit}
-use Rattle.page_relation.proofs.Loss.Halting.{may_end}
+use Rattle.page_relation.proofs.LossParts.Halting.{may_end}
 use Rattle.page_relation.specs.Work.Landing.{trace_of, disk_of}
 use Rattle.end_relation.specs.Ends.{CanEnd, CommitLeaves, CommitIsKept}
 use Rattle.end_relation.specs.Over.{reply_of, over_of}

@@ -32,7 +32,7 @@ use Rattle.page_relation.specs.Homes.{KindFits, KindIn}
 use Rattle.page_relation.specs.Looks.{copy_in, slot_in, slot_of, dirty_in, dirty_of}
 use Rattle.page_relation.specs.Relation.{CopiesAre, IsPageOf}
 use Rattle.page_relation.specs.Work.Landing.{land, Acts}
-use Rattle.page_relation.proofs.Work.Storing.{copies_by}
+use Rattle.page_relation.proofs.WorkParts.Storing.{copies_by}
 use Rattle.end_relation.proofs.Changed.{exclusive_some, written_copy}
 use Rattle.end_relation.proofs.Overs.{MayClose, IsOverWork}
 use Rattle.end_relation.proofs.Passing.{slot_now, image}

@@ -36,7 +36,7 @@ use Rattle.cluster_laws.specs.Link.Orders.{is_report, how_many}
 use Rattle.page_laws.specs.Moment.Looks.{accesses_in, HasPage, with_entry}
 use Rattle.page_laws.specs.Moment.Tells.{TellsSame}
 use Rattle.page_laws.specs.Storage.Looks.{IsStored}
-use Rattle.page_laws.proofs.Moment.Growing.{nothing_tells_law}
+use Rattle.page_laws.proofs.MomentParts.Growing.{nothing_tells_law}
 use Rattle.page_protocol.specs.Homes.{ending as giving_up}
 use Rattle.page_protocol.specs.State.{Page, current}
 use Rattle.page_protocol.specs.Steps.{Reached}
@@ -49,9 +49,9 @@ use Rattle.page_relation.specs.Work.Events.{IsEntered}
 use Rattle.page_relation.specs.Work.Keeping.{IsWorkOf, Leads}
 use Rattle.page_relation.specs.Work.Landing.{land, Acts, trace_of, disk_of}
 use Rattle.page_relation.specs.Work.StepEnds.{start_of, Follows}
-use Rattle.page_relation.proofs.Work.Ended.{end_is_landed_law}
-use Rattle.page_relation.proofs.Work.Kept.{reached_on}
-use Rattle.page_relation.proofs.Work.Started.{acting}
+use Rattle.page_relation.proofs.WorkParts.Ended.{end_is_landed_law}
+use Rattle.page_relation.proofs.WorkParts.Kept.{reached_on}
+use Rattle.page_relation.proofs.WorkParts.Started.{acting}
 use Rattle.end_relation.specs.Ends.{CanEnd, LeavesEnd, AbortLeaves, AbortIsKept}
 use Rattle.end_relation.specs.Midway.{IsMidway}
 use Rattle.end_relation.specs.Over.{event_of, reply_of, closed_of, over_of}

@@ -18,7 +18,7 @@ use Rattle.cluster_laws.proofs.Steps.{up_is_member_law}
 use Rattle.home_laws.specs.Homes.{is_exclusive_lock}
 use Rattle.home_laws.proofs.Serials.{one_if}
 use Rattle.home_laws.proofs.Unpins.{times}
-use Rattle.cluster_laws.proofs.Era.Lives.{stands}
+use Rattle.cluster_laws.proofs.EraParts.Lives.{stands}
 use Rattle.page_protocol.specs.Homes.{committing}
 use Rattle.pcl_base.specs.declared.tx.Mode.TheVariants.{Exclusive}
 use Rattle.page_protocol.specs.State.{Holding, Page}
@@ -28,11 +28,11 @@ use Rattle.redo_laws.specs.Laws.{HasLog}
 use Rattle.redo_laws.specs.Words.{IsWhole}
 use Rattle.page_laws.specs.Storage.Looks.{IsStored, ranges_of_part, with_record}
 use Rattle.page_laws.specs.Written.Record.{MayCommit}
-use Rattle.page_laws.proofs.Written.Logging.{none_in, commit_is_logged_law, commit_is_elsewhere_law}
-use Rattle.page_laws.proofs.Written.Looked.{times_look}
+use Rattle.page_laws.proofs.WrittenParts.Logging.{none_in, commit_is_logged_law, commit_is_elsewhere_law}
+use Rattle.page_laws.proofs.WrittenParts.Looked.{times_look}
 use Rattle.page_relation.specs.Loss.Writes.{ScriptsFit}
-use Rattle.page_relation.proofs.Loss.Committing.{page_low, version_low}
-use Rattle.page_relation.proofs.Loss.Halting.{MayEnd, may_end, log_whole, some_pages}
+use Rattle.page_relation.proofs.LossParts.Committing.{page_low, version_low}
+use Rattle.page_relation.proofs.LossParts.Halting.{MayEnd, may_end, log_whole, some_pages}
 use Rattle.page_relation.specs.Work.Landing.{disk_of}
 use Rattle.end_relation.specs.Over.{over_of}
 use Rattle.end_relation.proofs.Overs.{MayClose, IsOverWork, over_is}

@@ -18,8 +18,8 @@ use Rattle.cluster_laws.proofs.Steps.{up_is_member_law}
 use Rattle.page_relation.specs.Work.StepEnds.{start_of}
 use Rattle.page_relation.specs.Together.{IsRelated}
 use Rattle.page_relation.specs.Work.Landing.{Acts}
-use Rattle.page_relation.proofs.Work.Kept.{reached_on}
-use Rattle.page_relation.proofs.Work.Started.{acting}
+use Rattle.page_relation.proofs.WorkParts.Kept.{reached_on}
+use Rattle.page_relation.proofs.WorkParts.Started.{acting}
 use Rattle.end_relation.specs.Ends.{CanEnd, AbortGoes, CommitGoes}
 use Rattle.end_relation.specs.Midway.{OwnEndsGo}
 use Rattle.end_relation.specs.Over.{event_of, over_of}

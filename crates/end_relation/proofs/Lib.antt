@@ -19,5 +19,5 @@ pub mod Events
 pub mod Forcing
 pub mod Committed
 pub mod Going
-pub mod Access
-pub mod Release
+pub mod AccessParts
+pub mod ReleaseParts

@@ -12,8 +12,8 @@ use Rattle.node_laws.specs.Nodes.{IsOther}
 use Rattle.node_laws.proofs.Works.{Base, IsGood, good_send}
 use Rattle.cluster_rules.specs.Clusters.{Cluster, sent_by}
 use Rattle.page_laws.specs.Moment.Looks.{asked_last}
-use Rattle.page_laws.proofs.Moment.Entries.{sent_adds_nothing_law}
-use Rattle.page_laws.proofs.Moment.Growing.{nothing_tells_law}
+use Rattle.page_laws.proofs.MomentParts.Entries.{sent_adds_nothing_law}
+use Rattle.page_laws.proofs.MomentParts.Growing.{nothing_tells_law}
 use Rattle.page_relation.specs.Work.Landing.{trace_of}
 use Rattle.page_relation.specs.Work.Letting.{CalledBy}
 use Rattle.end_relation.specs.Midway.{IsMidway}

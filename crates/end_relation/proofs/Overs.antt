@@ -19,7 +19,7 @@ use Rattle.home_laws.specs.Homes.{AreSerials, IsHome}
 use Rattle.home_laws.proofs.Opens.{open_is_own}
 use Rattle.home_laws.proofs.Serials.{serials_below}
 use Rattle.page_laws.specs.Look.Ends.{IsWithoutTx, committed_copy}
-use Rattle.page_laws.proofs.Look.Closing.{abort_is_seen_law, commit_is_seen_law}
+use Rattle.page_laws.proofs.LookParts.Closing.{abort_is_seen_law, commit_is_seen_law}
 use Rattle.cluster_rules.specs.Clusters.{Cluster}
 use Rattle.page_relation.specs.Homes.{is_unborn}
 use Rattle.page_relation.specs.Work.StepEnds.{start_of}

@@ -34,12 +34,12 @@ use Rattle.page_relation.specs.Homes.{held_stand, IsOpenAs, Stands, StandsIn, is
 use Rattle.page_relation.specs.Looks.{copy_in, slot_in, slot_of}
 use Rattle.page_relation.specs.Relation.{IsPageOf}
 use Rattle.page_laws.specs.Storage.Looks.{IsStored, ranges_of_part}
-use Rattle.page_laws.proofs.Storage.AsSteps.{records_are_old_law}
+use Rattle.page_laws.proofs.StorageParts.AsSteps.{records_are_old_law}
 use Rattle.page_laws.specs.Written.Written.{DiffersWithin}
-use Rattle.page_laws.proofs.Written.Differing.{logged_is_put_law}
-use Rattle.page_laws.proofs.Written.Logging.{none_passes}
-use Rattle.page_laws.proofs.Written.Looked.{times_look}
-use Rattle.page_relation.proofs.Loss.Unwritten.{Unwritten, reached_unwritten}
+use Rattle.page_laws.proofs.WrittenParts.Differing.{logged_is_put_law}
+use Rattle.page_laws.proofs.WrittenParts.Logging.{none_passes}
+use Rattle.page_laws.proofs.WrittenParts.Looked.{times_look}
+use Rattle.page_relation.proofs.LossParts.Unwritten.{Unwritten, reached_unwritten}
 use Rattle.end_relation.proofs.Overs.{MayClose}
 
 -- What an end of t, which is a commit or not, is to page p, on which t has this lock.

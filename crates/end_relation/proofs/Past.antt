@@ -26,7 +26,7 @@ use Rattle.page_protocol.proofs.Keeps.{reached_holds}
 use Rattle.page_protocol.proofs.Promises.{alone_law}
 use Rattle.page_relation.specs.Relation.{HistoryIs, CopiesAre, IsPageOf}
 use Rattle.page_laws.specs.Storage.Looks.{IsStored}
-use Rattle.page_relation.proofs.Loss.Lost.{IsClosing, HomeAfter}
+use Rattle.page_relation.proofs.LossParts.Lost.{IsClosing, HomeAfter}
 use Rattle.page_relation.specs.Work.Landing.{land, trace_of, disk_of, Acts}
 use Rattle.end_relation.specs.Over.{event_of}
 use Rattle.end_relation.proofs.Changed.{unwritten_copy}

@@ -28,7 +28,7 @@ use Rattle.cluster_laws.specs.Handed.{IsHanded}
 use Rattle.cluster_laws.specs.Sound.{IsMember, IsCluster}
 use Rattle.cluster_laws.proofs.Steps.{up_is_member_law}
 use Rattle.page_laws.specs.Moment.Looks.{asked_last, with_entry}
-use Rattle.page_laws.proofs.Moment.Growing.{nothing_tells_law, commit_tells_law}
+use Rattle.page_laws.proofs.MomentParts.Growing.{nothing_tells_law, commit_tells_law}
 use Rattle.page_relation.specs.Together.{WaitsAsAsked}
 use Rattle.page_relation.specs.Work.Landing.{trace_of}
 use Rattle.page_relation.specs.Work.StepEnds.{start_of}

@@ -35,10 +35,10 @@ use Rattle.page_relation.specs.Work.Keeping.{IsWorkOf, Leads}
 use Rattle.page_relation.specs.Work.Landing.{land, Acts}
 use Rattle.page_relation.specs.Work.Sends.{MaySend}
 use Rattle.page_relation.specs.Work.Unseen.{IsUnseen}
-use Rattle.page_relation.proofs.Work.Comings.{coming_same}
-use Rattle.page_relation.proofs.Work.Framing.{unseen_is_kept_law}
-use Rattle.page_relation.proofs.Work.Landed.{landing_is_seen_law}
-use Rattle.page_relation.proofs.Work.Sending.{nothing_is_ahead_law}
+use Rattle.page_relation.proofs.WorkParts.Comings.{coming_same}
+use Rattle.page_relation.proofs.WorkParts.Framing.{unseen_is_kept_law}
+use Rattle.page_relation.proofs.WorkParts.Landed.{landing_is_seen_law}
+use Rattle.page_relation.proofs.WorkParts.Sending.{nothing_is_ahead_law}
 use Rattle.end_relation.specs.Midway.{IsMidway}
 use Rattle.end_relation.specs.Owing.{OwesEnd, IsOwed, choose, IsAbsent, AreOwed, SameComing}
 use Rattle.end_relation.proofs.Midway.{send_midway}

@@ -27,10 +27,10 @@ use Rattle.page_relation.specs.Messages.{is_release}
 use Rattle.page_relation.specs.Work.Events.{IsEntered}
 use Rattle.page_relation.specs.Work.Keeping.{IsWorkOf, Leads, Keeps}
 use Rattle.page_relation.specs.Work.Landing.{Acts}
-use Rattle.page_relation.proofs.Work.Framing.{unseen_self}
-use Rattle.page_relation.proofs.Work.Kept.{two_keep}
-use Rattle.page_relation.proofs.Work.Quiet.{sends_elsewhere_law}
-use Rattle.page_relation.proofs.Work.Sending.{send_is_kept_law}
+use Rattle.page_relation.proofs.WorkParts.Framing.{unseen_self}
+use Rattle.page_relation.proofs.WorkParts.Kept.{two_keep}
+use Rattle.page_relation.proofs.WorkParts.Quiet.{sends_elsewhere_law}
+use Rattle.page_relation.proofs.WorkParts.Sending.{send_is_kept_law}
 use Rattle.end_relation.specs.Midway.{IsMidway, IsUntold, OwnEndsKeep}
 use Rattle.end_relation.specs.Owing.{OwesEnd, IsOwed, IsAbsent, SameComing}
 use Rattle.end_relation.proofs.Telling.{IsTelling, release, released, released_midway, may_release, unserved, unseen_tells, own_owed, done, stays, is_owned}

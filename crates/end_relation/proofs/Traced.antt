@@ -16,14 +16,14 @@ use Rattle.cluster_rules.specs.Links.{link_at, tail_of}
 use Rattle.cluster_laws.specs.Handed.{handed_to, IsHanded}
 use Rattle.cluster_laws.specs.Sound.{IsCluster}
 use Rattle.cluster_laws.specs.Link.Coming.{is_coming, coming, sent_to, delivers}
-use Rattle.cluster_laws.proofs.Link.Heads.{delivers_is, handed_head}
+use Rattle.cluster_laws.proofs.LinkParts.Heads.{delivers_is, handed_head}
 use Rattle.page_laws.specs.Moment.Looks.{Adds, with_entry}
-use Rattle.page_laws.proofs.Moment.Entries.{event_adds_law, reply_adds_law}
+use Rattle.page_laws.proofs.MomentParts.Entries.{event_adds_law, reply_adds_law}
 use Rattle.page_relation.specs.Work.Landing.{land, trace_of}
 use Rattle.page_relation.specs.Work.StepEnds.{start_of}
 use Rattle.page_relation.specs.Work.Unseen.{SameStanding, speaks}
-use Rattle.page_relation.proofs.Work.Comings.{coming_same}
-use Rattle.page_relation.proofs.Work.Started.{acting, begun_coming}
+use Rattle.page_relation.proofs.WorkParts.Comings.{coming_same}
+use Rattle.page_relation.proofs.WorkParts.Started.{acting, begun_coming}
 use Rattle.end_relation.specs.Over.{event_of, reply_of}
 
 -- the event of an end

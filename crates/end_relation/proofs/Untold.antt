@@ -27,7 +27,7 @@ use Rattle.cluster_rules.specs.Links.{link_at}
 use Rattle.cluster_laws.specs.Sound.{IsOnLink, IsMember}
 use Rattle.cluster_laws.proofs.Steps.{up_is_member_law}
 use Rattle.cluster_laws.specs.Era.Eras.{era_at, owner_at}
-use Rattle.cluster_laws.proofs.Era.Ages.{eras_have_one_owner_law}
+use Rattle.cluster_laws.proofs.EraParts.Ages.{eras_have_one_owner_law}
 use Rattle.cluster_laws.specs.Link.Coming.{speaks_of, is_coming, coming}
 use Rattle.cluster_laws.specs.Link.EpochLaws.{IsInOrder}
 use Rattle.cluster_laws.specs.Link.Orders.{is_report, how_many}
@@ -36,7 +36,7 @@ use Rattle.page_relation.specs.Homes.{held_stand, IsOpenAs}
 use Rattle.page_relation.specs.Messages.{SaysSo, is_release}
 use Rattle.page_relation.specs.Relation.{IsPageOf, MessageIs}
 use Rattle.page_relation.specs.Together.{PartiesAre, IsParty}
-use Rattle.page_relation.proofs.Loss.Counting.{all_passing, both_all}
+use Rattle.page_relation.proofs.LossParts.Counting.{all_passing, both_all}
 use Rattle.page_relation.specs.Work.Keeping.{IsWorkOf}
 use Rattle.page_relation.specs.Work.Landing.{Acts}
 use Rattle.end_relation.specs.Midway.{IsMidway}

@@ -7,12 +7,12 @@ use Rattle.node_rules.specs.NodeState.{NodeState, Install, number_of, partition}
 use Rattle.node_rules.specs.Work.{Work, Goes}
 use Rattle.cluster_rules.specs.Clusters.{Cluster}
 use Rattle.cluster_laws.specs.Call.Calls.{BeginsWith, on_log}
-use Rattle.cluster_laws.proofs.Call.Owned.{Calls}
-use Rattle.page_relation.proofs.Work.Framing.{unseen_self, unseen_then}
+use Rattle.cluster_laws.proofs.CallParts.Owned.{Calls}
+use Rattle.page_relation.proofs.WorkParts.Framing.{unseen_self, unseen_then}
 use Rattle.settle_relation.specs.Midway.{IsMidway}
 use Rattle.settle_relation.proofs.Carrying.{on_goes}
 use Rattle.report_relation.specs.Completion.Completed.{IsBeside}
-use Rattle.report_relation.proofs.Completion.Beside.{complete_beside}
+use Rattle.report_relation.proofs.CompletionParts.Beside.{complete_beside}
 use Rattle.install_relation.specs.Installing.{IsInstall, numbers_at}
 use Rattle.install_relation.specs.Taking.{taken}
 use Rattle.install_relation.proofs.Beside.{keep_beside}

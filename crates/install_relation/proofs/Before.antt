@@ -15,13 +15,13 @@ use Rattle.node_rules.specs.Work.{Work, reply, with_home_work, with_node}
 use Rattle.cluster_rules.specs.Clusters.{Cluster}
 use Rattle.page_relation.specs.Homes.{wait_on}
 use Rattle.page_laws.specs.Storage.Looks.{IsStored}
-use Rattle.page_laws.proofs.Storage.Calls.{trimmed_is_stored_law}
+use Rattle.page_laws.proofs.StorageParts.Calls.{trimmed_is_stored_law}
 use Rattle.page_relation.specs.Work.StepEnds.{start_of}
 use Rattle.page_relation.specs.Work.Unseen.{IsUnseen, SameStored}
-use Rattle.page_relation.proofs.Work.Framing.{life_self, page_self, unseen_then}
-use Rattle.page_relation.proofs.Work.Quiet.{homes_elsewhere_law, quiet_replies_law}
+use Rattle.page_relation.proofs.WorkParts.Framing.{life_self, page_self, unseen_then}
+use Rattle.page_relation.proofs.WorkParts.Quiet.{homes_elsewhere_law, quiet_replies_law}
 use Rattle.kept_relation.specs.Turn.Standing.{stood, as_before}
-use Rattle.kept_relation.proofs.Turn.Unborn.{none_open}
+use Rattle.kept_relation.proofs.TurnParts.Unborn.{none_open}
 use Rattle.install_relation.specs.Unseen.{UnseenBefore, EnteringIsUnseen}
 
 module _ (c : Cluster) (e : Event) (n p : ℕ) (s : NodeState) (w x : Work) (u : IsUnseen c e n p w x) where

@@ -27,19 +27,19 @@ use Rattle.cluster_laws.specs.Handed.{handed_to}
 use Rattle.cluster_laws.specs.Sound.{IsMember}
 use Rattle.cluster_laws.proofs.Steps.{up_is_member_law, events_can_come_law}
 use Rattle.cluster_laws.specs.Call.Calls.{BeginsWith, trimmed}
-use Rattle.cluster_laws.proofs.Era.Epochs.{epoch_at, low_of}
+use Rattle.cluster_laws.proofs.EraParts.Epochs.{epoch_at, low_of}
 use Rattle.page_laws.specs.Moment.Looks.{asked_last, with_entry, Adds}
-use Rattle.page_laws.proofs.Moment.Entries.{event_adds_law}
-use Rattle.page_laws.proofs.Moment.Growing.{nothing_tells_law}
+use Rattle.page_laws.proofs.MomentParts.Entries.{event_adds_law}
+use Rattle.page_laws.proofs.MomentParts.Growing.{nothing_tells_law}
 use Rattle.page_relation.specs.Together.{WaitsAsAsked}
 use Rattle.page_relation.specs.Work.Landing.{Acts, trace_of}
 use Rattle.page_relation.specs.Work.Letting.{CalledBy}
 use Rattle.page_relation.specs.Work.StepEnds.{start_of}
-use Rattle.page_relation.proofs.Work.Started.{acting}
+use Rattle.page_relation.proofs.WorkParts.Started.{acting}
 use Rattle.settle_relation.specs.Midway.{IsMidway}
 use Rattle.settle_relation.proofs.Midway.{reply_asks}
 use Rattle.kept_relation.specs.Turn.Standing.{HasNext}
-use Rattle.kept_relation.proofs.Turn.Unborn.{none_open}
+use Rattle.kept_relation.proofs.TurnParts.Unborn.{none_open}
 use Rattle.install_relation.specs.Installing.{IsInstall, IsInstalling, numbers_at}
 use Rattle.install_relation.specs.Unseen.{entered}
 use Rattle.install_relation.proofs.Entered.{MayInstall, fact, epoch_some, start_good}

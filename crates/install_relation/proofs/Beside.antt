@@ -21,18 +21,18 @@ use Rattle.node_laws.proofs.Tables.{pages_are, purge_table_is}
 use Rattle.node_laws.proofs.Works.{Base, good_table, has_table}
 use Rattle.cluster_rules.specs.Clusters.{Cluster}
 use Rattle.page_laws.specs.Look.Buffers.{IsCleaned}
-use Rattle.page_laws.proofs.Look.Copies.{cleaning_is_seen_law}
+use Rattle.page_laws.proofs.LookParts.Copies.{cleaning_is_seen_law}
 use Rattle.page_relation.specs.Work.Unseen.{IsUnseen}
-use Rattle.page_relation.proofs.Work.Framing.{unseen_self, unseen_then}
-use Rattle.page_relation.proofs.Work.Quiet.{calls_elsewhere_law, homes_elsewhere_law, tables_elsewhere_law}
-use Rattle.page_relation.proofs.Work.Storing.{page_beside}
+use Rattle.page_relation.proofs.WorkParts.Framing.{unseen_self, unseen_then}
+use Rattle.page_relation.proofs.WorkParts.Quiet.{calls_elsewhere_law, homes_elsewhere_law, tables_elsewhere_law}
+use Rattle.page_relation.proofs.WorkParts.Storing.{page_beside}
 use Rattle.settle_relation.proofs.Elsewhere.{settle_on}
 use Rattle.settle_relation.proofs.Midway.{IsMidway, midway_on, still_same}
 use Rattle.report_relation.specs.Redoing.{records}
 use Rattle.report_relation.proofs.RedoMidway.{redo_midway}
 use Rattle.report_relation.proofs.Restored.{wrote_to}
 use Rattle.report_relation.specs.Completion.Completed.{IsBeside}
-use Rattle.report_relation.proofs.Completion.Beside.{complete_beside}
+use Rattle.report_relation.proofs.CompletionParts.Beside.{complete_beside}
 
 -- a table of which only what live nodes have stays
 pub purge_midway : (b : Base) (c : Cluster) (e : Event) (n q : ℕ) (v : View) (w : Work) → q < b.config.nodes → IsMidway b c e n w → IsMidway b c e n (purge_work q v w)

@@ -16,8 +16,8 @@ use Rattle.pcl_base.specs.declared.reply.Reply.TheVariants as reply
 use Rattle.step_laws.proofs.Outcomes.{On, on_so, on_then, on_each, on_any}
 use Rattle.cluster_laws.proofs.Lists.{all_any}
 use Rattle.cluster_laws.specs.Call.Calls.{BeginsWith}
-use Rattle.cluster_laws.proofs.Call.Written.{pushed}
-use Rattle.cluster_laws.proofs.Call.Owned.{Calls, settle_calls}
+use Rattle.cluster_laws.proofs.CallParts.Written.{pushed}
+use Rattle.cluster_laws.proofs.CallParts.Owned.{Calls, settle_calls}
 
 module _ (K : List DiskCall) where
   -- partitions

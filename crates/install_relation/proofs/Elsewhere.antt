@@ -21,11 +21,11 @@ use Rattle.cluster_rules.specs.Clusters.{Cluster}
 use Rattle.page_laws.specs.Look.Ends.{HasGivenUp, HasKinds, IsTakenOver, version_of_right}
 use Rattle.page_laws.specs.Look.Grants.{of_kind}
 use Rattle.page_laws.specs.Look.Parts.{SameLife}
-use Rattle.page_laws.proofs.Look.Turning.{giving_up_is_seen_law, taking_over_is_seen_law}
+use Rattle.page_laws.proofs.LookParts.Turning.{giving_up_is_seen_law, taking_over_is_seen_law}
 use Rattle.page_relation.specs.Homes.{wait_on}
 use Rattle.page_relation.specs.Work.Unseen.{IsUnseen, SamePage, SameUse}
-use Rattle.page_relation.proofs.Work.Framing.{unseen_self, unseen_then}
-use Rattle.page_relation.proofs.Work.Quiet.{homes_elsewhere_law, sends_elsewhere_law, tables_elsewhere_law}
+use Rattle.page_relation.proofs.WorkParts.Framing.{unseen_self, unseen_then}
+use Rattle.page_relation.proofs.WorkParts.Quiet.{homes_elsewhere_law, sends_elsewhere_law, tables_elsewhere_law}
 use Rattle.install_relation.specs.Taking.{taken}
 use Rattle.install_relation.specs.Unseen.{TellingElsewhere, TakingElsewhere}
 

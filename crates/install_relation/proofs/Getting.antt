@@ -15,11 +15,11 @@ use Rattle.node_laws.proofs.Lists.{all_weaker}
 use Rattle.cluster_rules.specs.Clusters.{Cluster}
 use Rattle.cluster_laws.proofs.Steps.{up_is_member_law}
 use Rattle.cluster_laws.specs.Era.Eras.{era_at, era_in}
-use Rattle.cluster_laws.proofs.Era.Ages.{era_is, eras_are_reached_law}
-use Rattle.cluster_laws.proofs.Era.Epochs.{epoch_at}
-use Rattle.cluster_laws.proofs.Era.Lives.{stands}
+use Rattle.cluster_laws.proofs.EraParts.Ages.{era_is, eras_are_reached_law}
+use Rattle.cluster_laws.proofs.EraParts.Epochs.{epoch_at}
+use Rattle.cluster_laws.proofs.EraParts.Lives.{stands}
 use Rattle.page_laws.specs.Look.Ends.{version_of_right}
-use Rattle.page_laws.proofs.Look.Granting.{spending_is_seen_law}
+use Rattle.page_laws.proofs.LookParts.Granting.{spending_is_seen_law}
 use Rattle.page_protocol.proofs.GivenBack.{in_time}
 use Rattle.page_protocol.proofs.Keeps.{and_then}
 use Rattle.page_protocol.specs.Authority.{spending}
@@ -33,17 +33,17 @@ use Rattle.page_relation.specs.Work.Events.{IsEntered}
 use Rattle.page_relation.specs.Work.Keeping.{IsWorkOf, Leads}
 use Rattle.page_relation.specs.Work.Landing.{Acts}
 use Rattle.page_relation.specs.Work.Spending.{spent}
-use Rattle.page_relation.proofs.Work.Kept.{reached_on}
-use Rattle.page_relation.proofs.Work.Nodes.{at_node}
-use Rattle.page_relation.proofs.Work.Spending.{shelf_is}
+use Rattle.page_relation.proofs.WorkParts.Kept.{reached_on}
+use Rattle.page_relation.proofs.WorkParts.Nodes.{at_node}
+use Rattle.page_relation.proofs.WorkParts.Spending.{shelf_is}
 use Rattle.kept_relation.specs.Turn.Getting.{IsTurned}
 use Rattle.kept_relation.specs.Turn.Standing.{stood}
 use Rattle.kept_relation.specs.Turn.Telling.{GoesOn, reported_on}
-use Rattle.kept_relation.proofs.Turn.Bounding.{bounded, step_bounded, related_bounded, low_bounded}
-use Rattle.kept_relation.proofs.Turn.Gone.{KeepsPage}
-use Rattle.kept_relation.proofs.Turn.Spent.{right_here}
-use Rattle.kept_relation.proofs.Turn.Told.{reached_old, old_below}
-use Rattle.kept_relation.proofs.Turn.Turning.{turning_is_step_law, spent_standing}
+use Rattle.kept_relation.proofs.TurnParts.Bounding.{bounded, step_bounded, related_bounded, low_bounded}
+use Rattle.kept_relation.proofs.TurnParts.Gone.{KeepsPage}
+use Rattle.kept_relation.proofs.TurnParts.Spent.{right_here}
+use Rattle.kept_relation.proofs.TurnParts.Told.{reached_old, old_below}
+use Rattle.kept_relation.proofs.TurnParts.Turning.{turning_is_step_law, spent_standing}
 use Rattle.install_relation.specs.Knowing.{IsHeardAt}
 use Rattle.install_relation.specs.Taking.{owning, taken, MayTurnTo, Gets, GettingIsKept, GettingFirstIsKept}
 use Rattle.install_relation.proofs.Gone.{related_gone, run_gone}

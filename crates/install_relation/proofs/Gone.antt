@@ -25,18 +25,18 @@ use Rattle.page_relation.specs.Together.{IsParty}
 use Rattle.page_laws.specs.Written.Written.{DiffersWithin}
 use Rattle.page_relation.specs.Work.Keeping.{IsWorkOf}
 use Rattle.page_relation.specs.Work.Landing.{land, Acts}
-use Rattle.page_relation.proofs.Work.Framing.{history_stays_law, reached_landed}
+use Rattle.page_relation.proofs.WorkParts.Framing.{history_stays_law, reached_landed}
 use Rattle.page_protocol.proofs.Keeps.{and_then}
-use Rattle.page_relation.proofs.Work.Nodes.{of_node, at_node, at_other, changed_node, kept_node}
+use Rattle.page_relation.proofs.WorkParts.Nodes.{of_node, at_node, at_other, changed_node, kept_node}
 use Rattle.kept_relation.specs.Turn.Telling.{homes_told, reported_on}
-use Rattle.kept_relation.proofs.Turn.Going.{era_stood}
-use Rattle.kept_relation.proofs.Turn.Gone.{KeepsPage}
-use Rattle.kept_relation.proofs.Turn.Knowing.{OnWay, NoneSent, known_coming}
-use Rattle.kept_relation.proofs.Turn.Naming.{names_of, names_own, unnamed_closed}
-use Rattle.kept_relation.proofs.Turn.Narrowing.{links_knowing}
-use Rattle.kept_relation.proofs.Turn.Reaching.{reached_here, reached_there}
-use Rattle.kept_relation.proofs.Turn.Retelling.{run_told, stands_retold, image_retold, holds_retold}
-use Rattle.kept_relation.proofs.Turn.Telling.{home_here, home_there, says_told, era_below}
+use Rattle.kept_relation.proofs.TurnParts.Going.{era_stood}
+use Rattle.kept_relation.proofs.TurnParts.Gone.{KeepsPage}
+use Rattle.kept_relation.proofs.TurnParts.Knowing.{OnWay, NoneSent, known_coming}
+use Rattle.kept_relation.proofs.TurnParts.Naming.{names_of, names_own, unnamed_closed}
+use Rattle.kept_relation.proofs.TurnParts.Narrowing.{links_knowing}
+use Rattle.kept_relation.proofs.TurnParts.Reaching.{reached_here, reached_there}
+use Rattle.kept_relation.proofs.TurnParts.Retelling.{run_told, stands_retold, image_retold, holds_retold}
+use Rattle.kept_relation.proofs.TurnParts.Telling.{home_here, home_there, says_told, era_below}
 use Rattle.install_relation.specs.Knowing.{IsHeardAt}
 use Rattle.install_relation.proofs.Heard.{table_of_heard}
 

@@ -14,9 +14,9 @@ use Rattle.page_protocol.specs.Eras.{with_report}
 use Rattle.page_protocol.specs.State.{Page, updn}
 use Rattle.page_relation.specs.Tables.{WaiterIs, TableIs, TableIn, TableOf}
 use Rattle.kept_relation.specs.Turn.Telling.{homes_told, reported_on}
-use Rattle.kept_relation.proofs.Turn.Narrowing.{all_weaker_both}
-use Rattle.kept_relation.proofs.Turn.Reaching.{reached_up}
-use Rattle.kept_relation.proofs.Turn.Telling.{asked_on, listed_on}
+use Rattle.kept_relation.proofs.TurnParts.Narrowing.{all_weaker_both}
+use Rattle.kept_relation.proofs.TurnParts.Reaching.{reached_up}
+use Rattle.kept_relation.proofs.TurnParts.Telling.{asked_on, listed_on}
 use Rattle.install_relation.specs.Knowing.{IsHeardAt}
 
 module _ (a : Page) (n next : ℕ) (low : a.era ≤ a.reached n) (below : a.reached n < next) where

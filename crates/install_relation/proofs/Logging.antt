@@ -14,7 +14,7 @@ use Rattle.node_laws.proofs.Lists.{set_at, set_length}
 use Rattle.redo_laws.proofs.Logs.{records_trimmed}
 use Rattle.cluster_rules.specs.Clusters.{Cluster}
 use Rattle.cluster_laws.specs.Call.Calls.{BeginsWith, on_log, trimmed}
-use Rattle.cluster_laws.proofs.Call.Disks.{writes_keep_logs_law}
+use Rattle.cluster_laws.proofs.CallParts.Disks.{writes_keep_logs_law}
 use Rattle.page_relation.specs.Work.Landing.{disk_of}
 use Rattle.report_relation.specs.Redoing.{records}
 

@@ -15,7 +15,7 @@ use Rattle.node_rules.specs.Work.{Work, with_node, work_of_home}
 use Rattle.node_laws.proofs.Installs.{at, upto}
 use Rattle.node_laws.proofs.Works.{Base, IsGood}
 use Rattle.cluster_rules.specs.Clusters.{Cluster}
-use Rattle.page_laws.proofs.Look.Turning.{giving_up_is_seen_law, taking_over_is_seen_law}
+use Rattle.page_laws.proofs.LookParts.Turning.{giving_up_is_seen_law, taking_over_is_seen_law}
 use Rattle.page_laws.specs.Moment.Looks.{asked_last}
 use Rattle.page_relation.specs.Work.Landing.{trace_of}
 use Rattle.page_relation.specs.Work.Letting.{CalledBy}

@@ -12,14 +12,14 @@ use Rattle.page_protocol.specs.State.{Page}
 use Rattle.page_protocol.specs.Steps.{Reached, here, then}
 use Rattle.page_relation.specs.Work.Events.{IsEntered}
 use Rattle.page_relation.specs.Work.Keeping.{IsWorkOf, Leads}
-use Rattle.page_relation.proofs.Work.Kept.{leads_on, reached_on}
+use Rattle.page_relation.proofs.WorkParts.Kept.{leads_on, reached_on}
 use Rattle.settle_relation.specs.Midway.{IsMidway}
 use Rattle.report_relation.specs.Completing.{IsReady}
 use Rattle.report_relation.specs.Completion.Completed.{CanBeWhole, MayBeWhole, Owns}
-use Rattle.report_relation.proofs.Completion.Completed.{complete_keeps_law}
+use Rattle.report_relation.proofs.CompletionParts.Completed.{complete_keeps_law}
 use Rattle.kept_relation.specs.Turn.Standing.{as_before}
-use Rattle.kept_relation.proofs.Turn.Going.{view_is_kept_law}
-use Rattle.kept_relation.proofs.Turn.Joining.{join_is_kept_law}
+use Rattle.kept_relation.proofs.TurnParts.Going.{view_is_kept_law}
+use Rattle.kept_relation.proofs.TurnParts.Joining.{join_is_kept_law}
 use Rattle.install_relation.specs.Installing.{IsWaiting, numbers_at}
 use Rattle.install_relation.specs.Taking.{taken}
 use Rattle.install_relation.specs.Whole.{IsInstallOf, IsTurned, MayOwn, OwnTurnIsKept}

@@ -23,12 +23,12 @@ use Rattle.page_relation.specs.Work.Keeping.{IsWorkOf}
 use Rattle.page_relation.specs.Work.Landing.{Acts}
 use Rattle.page_relation.specs.Work.StepEnds.{start_of}
 use Rattle.page_relation.specs.Work.Unseen.{speaks}
-use Rattle.page_relation.proofs.Work.Framing.{unseen_is_kept_law}
-use Rattle.page_relation.proofs.Work.Started.{start_is_related_law}
+use Rattle.page_relation.proofs.WorkParts.Framing.{unseen_is_kept_law}
+use Rattle.page_relation.proofs.WorkParts.Started.{start_is_related_law}
 use Rattle.settle_relation.specs.Midway.{IsMidway}
 use Rattle.kept_relation.specs.Turn.Standing.{HasNext, as_before}
 use Rattle.kept_relation.specs.Turn.Telling.{GoesOn, Begins, HasNone, HasTable}
-use Rattle.kept_relation.proofs.Turn.Unborn.{none_open}
+use Rattle.kept_relation.proofs.TurnParts.Unborn.{none_open}
 use Rattle.install_relation.specs.Installing.{IsWaiting, numbers_at}
 use Rattle.install_relation.specs.Taking.{MayTurnTo, Gets}
 use Rattle.install_relation.specs.Unseen.{KeepsBirth, entered}

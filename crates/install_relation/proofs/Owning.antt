@@ -12,8 +12,8 @@ use Rattle.page_protocol.specs.Eras.{reported}
 use Rattle.page_protocol.specs.State.{Home, Fresh, Asking, Holding, HoldingAsks, Reading, ReadingAsks, Ended, Gone, IsClosed}
 use Rattle.page_relation.specs.Homes.{Stands, KindFits, stand_of, held_stand}
 use Rattle.kept_relation.specs.Turn.Listing.{listed_mode}
-use Rattle.kept_relation.proofs.Turn.Registered.{registered_lock}
-use Rattle.kept_relation.proofs.Turn.Unborn.{less_unborn, stands_closed}
+use Rattle.kept_relation.proofs.TurnParts.Registered.{registered_lock}
+use Rattle.kept_relation.proofs.TurnParts.Unborn.{less_unborn, stands_closed}
 
 -- a lock that isn't under a right stands as an own one
 pub own_stand : (m : Mode) (k : Kind) (w : Option Mode) → is_right_lock (Some (record { page = 0; mode = m; kind = k })) ≡ false → held_stand m k w ≡ held_stand m kind.Own w

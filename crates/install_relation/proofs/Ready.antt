@@ -12,19 +12,19 @@ use Rattle.node_rules.specs.Words.{among, pick}
 use Rattle.node_rules.specs.Work.{Work, with_node}
 use Rattle.home_laws.specs.Homes.{IsHome, is_right_lock}
 use Rattle.cluster_rules.specs.Clusters.{Cluster}
-use Rattle.cluster_laws.proofs.Era.Counted.{counts_stay_law}
+use Rattle.cluster_laws.proofs.EraParts.Counted.{counts_stay_law}
 use Rattle.page_laws.specs.Look.Grants.{IsSpent, of_kind}
-use Rattle.page_laws.proofs.Look.Granting.{spending_is_seen_law}
+use Rattle.page_laws.proofs.LookParts.Granting.{spending_is_seen_law}
 use Rattle.page_relation.specs.Homes.{is_unborn}
 use Rattle.page_relation.specs.Work.Landing.{Acts}
 use Rattle.page_relation.specs.Work.Spending.{spent}
-use Rattle.page_relation.proofs.Work.Nodes.{unborn_same}
+use Rattle.page_relation.proofs.WorkParts.Nodes.{unborn_same}
 use Rattle.kept_relation.specs.Turn.Standing.{HasNext, stood}
 use Rattle.kept_relation.specs.Turn.Telling.{Begins}
-use Rattle.kept_relation.proofs.Turn.Narrowing.{counts_before, counts_unborn}
-use Rattle.kept_relation.proofs.Turn.Registered.{registered_lock}
-use Rattle.kept_relation.proofs.Turn.Turning.{own_page, spent_standing}
-use Rattle.kept_relation.proofs.Turn.Unborn.{none_open, unborn_before}
+use Rattle.kept_relation.proofs.TurnParts.Narrowing.{counts_before, counts_unborn}
+use Rattle.kept_relation.proofs.TurnParts.Registered.{registered_lock}
+use Rattle.kept_relation.proofs.TurnParts.Turning.{own_page, spent_standing}
+use Rattle.kept_relation.proofs.TurnParts.Unborn.{none_open, unborn_before}
 use Rattle.install_relation.proofs.Owning.{own_registered, none_under}
 use Rattle.install_relation.proofs.Taking.{IsReady}
 

@@ -19,7 +19,7 @@ use Rattle.node_rules.specs.Work.{Work, with_node}
 use Rattle.home_laws.specs.Homes.{IsHome}
 use Rattle.home_laws.proofs.Partitions.{take_over_is_sound_law}
 use Rattle.cluster_rules.specs.Clusters.{Cluster, last_view}
-use Rattle.page_laws.proofs.Entry.Gathered.{gathering_is_seen_law}
+use Rattle.page_laws.proofs.EntryParts.Gathered.{gathering_is_seen_law}
 use Rattle.cluster_laws.specs.Era.Eras.{era_in}
 use Rattle.page_laws.specs.Look.Grants.{of_kind}
 use Rattle.page_protocol.specs.Eras.{with_report, reported}
@@ -30,15 +30,15 @@ use Rattle.page_relation.specs.Messages.{HasAsked, IsTold, CountsFor}
 use Rattle.page_relation.specs.Tables.{TableIs, IsRebuilt}
 use Rattle.page_relation.specs.Work.Keeping.{IsWorkOf}
 use Rattle.page_relation.specs.Work.Landing.{land, Acts}
-use Rattle.page_relation.proofs.Work.Nodes.{at_node}
+use Rattle.page_relation.proofs.WorkParts.Nodes.{at_node}
 use Rattle.kept_relation.specs.Turn.Getting.{HasReported}
 use Rattle.kept_relation.specs.Turn.Listing.{listed_mode}
 use Rattle.kept_relation.specs.Turn.Standing.{HasNext}
 use Rattle.kept_relation.specs.Turn.Telling.{homes_told, reported_on}
-use Rattle.kept_relation.proofs.Turn.Getting.{new_table_is_rebuilt_law}
-use Rattle.kept_relation.proofs.Turn.Reaching.{reached_here}
-use Rattle.kept_relation.proofs.Turn.Saying.{reported_retold, told_retold, waits_unfresh, found_version}
-use Rattle.kept_relation.proofs.Turn.Telling.{home_here, listed_new}
+use Rattle.kept_relation.proofs.TurnParts.Getting.{new_table_is_rebuilt_law}
+use Rattle.kept_relation.proofs.TurnParts.Reaching.{reached_here}
+use Rattle.kept_relation.proofs.TurnParts.Saying.{reported_retold, told_retold, waits_unfresh, found_version}
+use Rattle.kept_relation.proofs.TurnParts.Telling.{home_here, listed_new}
 use Rattle.install_relation.specs.Taking.{owning}
 use Rattle.install_relation.proofs.Owning.{own_report_lists}
 use Rattle.install_relation.proofs.Taking.{held_is, seen}

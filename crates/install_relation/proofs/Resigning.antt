@@ -14,13 +14,13 @@ use Rattle.page_protocol.specs.Steps.{here, then, falls, reports}
 use Rattle.page_relation.specs.Work.Events.{IsEntered}
 use Rattle.page_relation.specs.Work.Keeping.{IsWorkOf, Leads}
 use Rattle.page_relation.specs.Work.Landing.{Acts}
-use Rattle.page_relation.proofs.Work.Kept.{reached_on}
+use Rattle.page_relation.proofs.WorkParts.Kept.{reached_on}
 use Rattle.kept_relation.specs.Turn.Standing.{stood}
 use Rattle.kept_relation.specs.Turn.Telling.{GoesOn, HasTable}
-use Rattle.kept_relation.proofs.Turn.Falling.{GivesUp, fallen, given}
-use Rattle.kept_relation.proofs.Turn.Gone.{KeepsPage}
-use Rattle.kept_relation.proofs.Turn.Leaving.{between, gives_up, has_after, keeps_owned}
-use Rattle.kept_relation.proofs.Turn.Told.{reached_old, old_below}
+use Rattle.kept_relation.proofs.TurnParts.Falling.{GivesUp, fallen, given}
+use Rattle.kept_relation.proofs.TurnParts.Gone.{KeepsPage}
+use Rattle.kept_relation.proofs.TurnParts.Leaving.{between, gives_up, has_after, keeps_owned}
+use Rattle.kept_relation.proofs.TurnParts.Told.{reached_old, old_below}
 use Rattle.install_relation.specs.Knowing.{IsHeardAt}
 use Rattle.install_relation.specs.Taking.{MayTurnTo}
 use Rattle.install_relation.specs.Telling.{TellsAsOwner}

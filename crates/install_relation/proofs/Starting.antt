@@ -8,8 +8,8 @@ use Rattle.node_rules.specs.NodeState.{NodeState, partition, is_serving, number_
 use Rattle.node_rules.specs.Work.{Work, with_node}
 use Rattle.cluster_rules.specs.Clusters.{Cluster}
 use Rattle.cluster_laws.specs.Era.Eras.{era_at}
-use Rattle.cluster_laws.proofs.Era.Ages.{eras_are_reached_law}
-use Rattle.cluster_laws.proofs.Era.Epochs.{epoch_at}
+use Rattle.cluster_laws.proofs.EraParts.Ages.{eras_are_reached_law}
+use Rattle.cluster_laws.proofs.EraParts.Epochs.{epoch_at}
 use Rattle.page_protocol.proofs.Keeps.{and_then}
 use Rattle.page_protocol.specs.Eras.{joining}
 use Rattle.page_protocol.specs.State.{Page}
@@ -18,13 +18,13 @@ use Rattle.page_relation.specs.Tables.{ReachedBy}
 use Rattle.page_relation.specs.Work.Events.{IsEntered}
 use Rattle.page_relation.specs.Work.Keeping.{IsWorkOf, Leads}
 use Rattle.page_relation.specs.Work.Landing.{Acts}
-use Rattle.page_relation.proofs.Work.Kept.{reached_on}
+use Rattle.page_relation.proofs.WorkParts.Kept.{reached_on}
 use Rattle.kept_relation.specs.Turn.Standing.{stood, as_before}
 use Rattle.kept_relation.specs.Turn.Telling.{Begins}
-use Rattle.kept_relation.proofs.Turn.Bounding.{bounded, limits, step_bounded, related_bounded, low_bounded}
-use Rattle.kept_relation.proofs.Turn.Gone.{KeepsPage}
-use Rattle.kept_relation.proofs.Turn.Joining.{stands_on, kind_on}
-use Rattle.kept_relation.proofs.Turn.Narrowing.{counts_unborn}
+use Rattle.kept_relation.proofs.TurnParts.Bounding.{bounded, limits, step_bounded, related_bounded, low_bounded}
+use Rattle.kept_relation.proofs.TurnParts.Gone.{KeepsPage}
+use Rattle.kept_relation.proofs.TurnParts.Joining.{stands_on, kind_on}
+use Rattle.kept_relation.proofs.TurnParts.Narrowing.{counts_unborn}
 use Rattle.install_relation.specs.Knowing.{IsHeardAt}
 use Rattle.install_relation.specs.Taking.{MayTurnTo}
 use Rattle.install_relation.specs.Telling.{TellsFirst}

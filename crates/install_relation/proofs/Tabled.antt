@@ -13,8 +13,8 @@ use Rattle.page_relation.specs.Tables.{TableIs, TableIn, TableOf, serves_in}
 use Rattle.page_relation.specs.Work.Keeping.{IsWorkOf}
 use Rattle.page_relation.specs.Work.Landing.{land, Acts}
 use Rattle.page_relation.specs.Work.Unseen.{SameStanding}
-use Rattle.page_relation.proofs.Work.Framing.{life_self, use_self, history_stays_law, stored_stays_law, copies_stay_law, homes_stay_law, nodes_stay_law, links_stay_law}
-use Rattle.page_relation.proofs.Work.Nodes.{kept_node}
+use Rattle.page_relation.proofs.WorkParts.Framing.{life_self, use_self, history_stays_law, stored_stays_law, copies_stay_law, homes_stay_law, nodes_stay_law, links_stay_law}
+use Rattle.page_relation.proofs.WorkParts.Nodes.{kept_node}
 use Rattle.settle_relation.proofs.Deciding.{era_landed}
 
 module _ (c : Cluster) (e : Event) (n p : ℕ) (acts : Acts c n) (u : LockTable) (w : Work) (a : Page) (place : partition c.config p < length w.node.tables) (free : table_at w.node (partition c.config p) ≡ None) (unserved : u.serving ≡ false) where

@@ -16,16 +16,16 @@ use Rattle.node_rules.specs.Words as rules
 use Rattle.home_laws.specs.Homes.{is_right_lock}
 use Rattle.cluster_rules.specs.Clusters.{Cluster}
 use Rattle.cluster_laws.specs.Era.Counts.{counts_in}
-use Rattle.cluster_laws.proofs.Era.Counted.{counts_stay_law}
+use Rattle.cluster_laws.proofs.EraParts.Counted.{counts_stay_law}
 use Rattle.page_laws.specs.Look.Ends.{IsTakenOver, version_of_right}
 use Rattle.page_laws.specs.Look.Grants.{of_kind}
-use Rattle.page_laws.proofs.Look.Turning.{taking_over_is_seen_law}
+use Rattle.page_laws.proofs.LookParts.Turning.{taking_over_is_seen_law}
 use Rattle.page_relation.specs.Homes.{KindFits, wait_on, is_unborn}
 use Rattle.page_relation.specs.Looks.{copy_in}
 use Rattle.page_relation.specs.Tables.{ReachedBy}
-use Rattle.page_relation.proofs.Work.Nodes.{stands_as, unborn_same}
+use Rattle.page_relation.proofs.WorkParts.Nodes.{stands_as, unborn_same}
 use Rattle.kept_relation.specs.Turn.Standing.{HasNext}
-use Rattle.kept_relation.proofs.Turn.Gone.{KeepsPage}
+use Rattle.kept_relation.proofs.TurnParts.Gone.{KeepsPage}
 use Rattle.install_relation.specs.Taking.{owning}
 use Rattle.install_relation.proofs.Owning.{stands_own, own_fits}
 

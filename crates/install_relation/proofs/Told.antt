@@ -16,8 +16,8 @@ use Rattle.cluster_rules.specs.Clusters.{Cluster, node_at}
 use Rattle.cluster_rules.specs.Links.{link_at}
 use Rattle.cluster_laws.proofs.Steps.{up_is_member_law}
 use Rattle.cluster_laws.specs.Era.Eras.{era_at}
-use Rattle.cluster_laws.proofs.Era.Ages.{era_is}
-use Rattle.cluster_laws.proofs.Era.Lives.{stands}
+use Rattle.cluster_laws.proofs.EraParts.Ages.{era_is}
+use Rattle.cluster_laws.proofs.EraParts.Lives.{stands}
 use Rattle.home_laws.specs.Homes.{IsHome}
 use Rattle.cluster_laws.specs.Link.Coming.{coming}
 use Rattle.cluster_laws.specs.Link.EpochLaws.{IsInOrder}
@@ -30,15 +30,15 @@ use Rattle.page_relation.specs.Together.{IsParty}
 use Rattle.page_relation.specs.Work.Events.{IsEntered}
 use Rattle.page_relation.specs.Work.Keeping.{IsWorkOf, Leads}
 use Rattle.page_relation.specs.Work.Landing.{land, Acts}
-use Rattle.page_relation.proofs.Work.Nodes.{at_node}
+use Rattle.page_relation.proofs.WorkParts.Nodes.{at_node}
 use Rattle.kept_relation.specs.Turn.Standing.{HasNext, stood}
 use Rattle.kept_relation.specs.Turn.Telling.{reported_on}
-use Rattle.kept_relation.proofs.Turn.Gone.{KeepsPage}
-use Rattle.kept_relation.proofs.Turn.Knowing.{OnWay, NoneSent, known_coming}
-use Rattle.kept_relation.proofs.Turn.Reporting.{MayReport, report_is_kept}
-use Rattle.kept_relation.proofs.Turn.Said.{report_says}
-use Rattle.kept_relation.proofs.Turn.Staying.{keeps_unowned}
-use Rattle.kept_relation.proofs.Turn.Told.{reached_old, old_below}
+use Rattle.kept_relation.proofs.TurnParts.Gone.{KeepsPage}
+use Rattle.kept_relation.proofs.TurnParts.Knowing.{OnWay, NoneSent, known_coming}
+use Rattle.kept_relation.proofs.TurnParts.Reporting.{MayReport, report_is_kept}
+use Rattle.kept_relation.proofs.TurnParts.Said.{report_says}
+use Rattle.kept_relation.proofs.TurnParts.Staying.{keeps_unowned}
+use Rattle.kept_relation.proofs.TurnParts.Told.{reached_old, old_below}
 use Rattle.page_protocol.proofs.GivenBack.{in_time}
 use Rattle.page_protocol.specs.Eras.{reporting}
 use Rattle.install_relation.specs.Knowing.{IsHeardAt}

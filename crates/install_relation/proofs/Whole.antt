@@ -14,8 +14,8 @@ use Rattle.page_protocol.specs.State.{Page}
 use Rattle.page_relation.specs.Relation.{IsPageOf}
 use Rattle.page_relation.specs.Work.Keeping.{Leads}
 use Rattle.page_relation.specs.Work.StepEnds.{start_of}
-use Rattle.page_relation.proofs.Work.Ended.{end_is_landed_law}
-use Rattle.page_relation.proofs.Work.Framing.{unseen_is_kept_law, unseen_self, unseen_then}
+use Rattle.page_relation.proofs.WorkParts.Ended.{end_is_landed_law}
+use Rattle.page_relation.proofs.WorkParts.Framing.{unseen_is_kept_law, unseen_self, unseen_then}
 use Rattle.install_relation.specs.Installing.{IsWaiting}
 use Rattle.install_relation.specs.Unseen.{entered}
 use Rattle.install_relation.specs.Whole.{IsInstallOf, IsTurned, MayOwn, InstallIsKept, OthersAreUnseen}

@@ -16,13 +16,13 @@ use Rattle.page_protocol.specs.Steps.{Reached, here}
 use Rattle.page_relation.specs.Tables.{TableIs}
 use Rattle.page_laws.specs.Storage.Looks.{page_of}
 use Rattle.page_laws.specs.Storage.Machine.{TellsEntry}
-use Rattle.page_laws.proofs.Storage.AsSteps.{greatest_tells_entry_law}
+use Rattle.page_laws.proofs.StorageParts.AsSteps.{greatest_tells_entry_law}
 use Rattle.page_relation.specs.Work.Keeping.{IsWorkOf, Leads}
 use Rattle.page_relation.specs.Work.Landing.{Acts, disk_of}
 use Rattle.page_relation.specs.Work.Letting.{CalledBy}
-use Rattle.page_relation.proofs.Work.Framing.{unseen_is_kept_law}
-use Rattle.page_relation.proofs.Work.Kept.{leads_on, reached_on}
-use Rattle.page_relation.proofs.Work.Storing.{IsHere, stored_is}
+use Rattle.page_relation.proofs.WorkParts.Framing.{unseen_is_kept_law}
+use Rattle.page_relation.proofs.WorkParts.Kept.{leads_on, reached_on}
+use Rattle.page_relation.proofs.WorkParts.Storing.{IsHere, stored_is}
 use Rattle.kept_relation.specs.Redoing.{HaveNoNext, IsRedone, MayRedo, RedoAgrees, RedoKeeps}
 use Rattle.kept_relation.proofs.Among.{page_among}
 use Rattle.kept_relation.proofs.OwnRedo.{redo_leads}

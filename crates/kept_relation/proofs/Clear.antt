@@ -12,7 +12,7 @@ use Rattle.cluster_laws.specs.Link.Coming.{coming, sent_to}
 use Rattle.page_protocol.specs.State.{Page}
 use Rattle.page_relation.specs.Work.Landing.{land, Acts}
 use Rattle.page_relation.specs.Work.Unseen.{speaks}
-use Rattle.page_relation.proofs.Work.Comings.{coming_same}
+use Rattle.page_relation.proofs.WorkParts.Comings.{coming_same}
 use Rattle.kept_relation.specs.Clearing.{ClearStays, IsClear}
 use Rattle.kept_relation.specs.Emptying.{dead_below, gone_below}
 use Rattle.kept_relation.specs.Purging.{AreSpared, SparedIn}

@@ -10,8 +10,8 @@ use Rattle.node_rules.specs.NodeState.{NodeState, partition}
 use Rattle.node_rules.specs.Work.{Work}
 use Rattle.cluster_rules.specs.Clusters.{Cluster, node_at}
 use Rattle.cluster_laws.specs.Era.Eras.{era_at, live_at, live_in}
-use Rattle.cluster_laws.proofs.Era.Ages.{eras_never_fall_law}
-use Rattle.cluster_laws.proofs.Era.Lives.{lives_go_on_law}
+use Rattle.cluster_laws.proofs.EraParts.Ages.{eras_never_fall_law}
+use Rattle.cluster_laws.proofs.EraParts.Lives.{lives_go_on_law}
 use Rattle.cluster_laws.specs.Link.Coming.{coming}
 use Rattle.page_protocol.specs.State.{IsClosed, IsShelf, NoRight, Page}
 use Rattle.page_relation.specs.Work.Keeping.{IsWorkOf}

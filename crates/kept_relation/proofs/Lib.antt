@@ -10,4 +10,4 @@ pub mod Serving
 pub mod Unlisted
 pub mod Spared
 pub mod Cleared
-pub mod Turn
+pub mod TurnParts

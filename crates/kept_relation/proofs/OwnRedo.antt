@@ -18,11 +18,11 @@ use Rattle.node_rules.specs.NodeState.{NodeState, is_serving, partition, put_tab
 use Rattle.node_rules.specs.Words.{pick}
 use Rattle.node_rules.specs.Work.{Goes, Outcome, Work, and_so, with_home_work, with_node, work_of_home}
 use Rattle.cluster_rules.specs.Clusters.{Cluster, node_at}
-use Rattle.page_laws.proofs.Entry.Tabled.{tables_are_seen_law}
+use Rattle.page_laws.proofs.EntryParts.Tabled.{tables_are_seen_law}
 use Rattle.cluster_laws.specs.Era.Eras.{era_in}
 use Rattle.page_laws.specs.Look.Buffers.{IsCleaned}
 use Rattle.page_laws.specs.Look.Ends.{version_of_right}
-use Rattle.page_laws.proofs.Look.Copies.{cleaning_is_seen_law}
+use Rattle.page_laws.proofs.LookParts.Copies.{cleaning_is_seen_law}
 use Rattle.page_protocol.specs.Bytes.{Ranges}
 use Rattle.page_protocol.specs.Eras.{redoing}
 use Rattle.page_protocol.specs.State.{Page, current}
@@ -30,7 +30,7 @@ use Rattle.page_protocol.specs.Steps.{Reached, Run, here, redoes, then}
 use Rattle.page_protocol.proofs.Keeps.{reached_holds}
 use Rattle.page_laws.specs.Storage.Looks.{IsStored, page_of}
 use Rattle.page_laws.specs.Storage.Machine.{at_version}
-use Rattle.page_laws.proofs.Storage.AsSteps.{current_is_redone_law, pages_are_written_law, records_are_old_law}
+use Rattle.page_laws.proofs.StorageParts.AsSteps.{current_is_redone_law, pages_are_written_law, records_are_old_law}
 use Rattle.page_relation.specs.Homes.{wait_on}
 use Rattle.page_relation.specs.Looks.{copy_in}
 use Rattle.page_relation.specs.Relation.{CopiesAre, HomesAre, NodesAre, LinksAre, TablesAre}
@@ -39,10 +39,10 @@ use Rattle.page_relation.specs.Work.Events.{IsEntered}
 use Rattle.page_relation.specs.Work.Keeping.{IsWorkOf, Leads}
 use Rattle.page_relation.specs.Work.Landing.{disk_of, land}
 use Rattle.page_relation.specs.Work.Unseen.{SameStanding, SameUse}
-use Rattle.page_relation.proofs.Work.Framing.{history_stays_law, homes_stay_law, links_stay_law, nodes_stay_law}
-use Rattle.page_relation.proofs.Work.Kept.{reached_on}
-use Rattle.page_relation.proofs.Work.Nodes.{at_other, kept_node, of_node}
-use Rattle.page_relation.proofs.Work.Storing.{IsHere, copies_by, dirty_there, has_page, none_of, own_page, slot_here, slot_there, stored_is}
+use Rattle.page_relation.proofs.WorkParts.Framing.{history_stays_law, homes_stay_law, links_stay_law, nodes_stay_law}
+use Rattle.page_relation.proofs.WorkParts.Kept.{reached_on}
+use Rattle.page_relation.proofs.WorkParts.Nodes.{at_other, kept_node, of_node}
+use Rattle.page_relation.proofs.WorkParts.Storing.{IsHere, copies_by, dirty_there, has_page, none_of, own_page, slot_here, slot_there, stored_is}
 use Rattle.kept_relation.specs.Redoing.{HaveNoNext, IsRedone, MayRedo, SameClaims}
 use Rattle.kept_relation.proofs.Purged.{era_landed, own_table, put_there}
 use Rattle.kept_relation.proofs.Redoes.{reads_disk, records_same, redo_may}

@@ -16,10 +16,10 @@ use Rattle.node_rules.specs.Work.{Work, with_node}
 use Rattle.node_laws.proofs.Lists.{set_same}
 use Rattle.cluster_rules.specs.Clusters.{Cluster, node_at}
 use Rattle.page_laws.specs.Entry.Looks.{IsPurged}
-use Rattle.page_laws.proofs.Entry.Looked.{purging_is_seen_law}
-use Rattle.page_laws.proofs.Entry.Tabled.{tables_are_seen_law}
-use Rattle.page_laws.proofs.Entry.Words.{all_from, all_in}
-use Rattle.page_laws.proofs.Entry.Writers.{writers_wait_for_nothing_law}
+use Rattle.page_laws.proofs.EntryParts.Looked.{purging_is_seen_law}
+use Rattle.page_laws.proofs.EntryParts.Tabled.{tables_are_seen_law}
+use Rattle.page_laws.proofs.EntryParts.Words.{all_from, all_in}
+use Rattle.page_laws.proofs.EntryParts.Writers.{writers_wait_for_nothing_law}
 use Rattle.cluster_laws.specs.Era.Eras.{era_at, era_in, owner_at}
 use Rattle.cluster_laws.specs.Link.Coming.{coming}
 use Rattle.page_protocol.specs.State as machine
@@ -30,9 +30,9 @@ use Rattle.page_relation.specs.Tables.{EraIs, IsRebuilt, IsServed, TableIn, Tabl
 use Rattle.page_relation.specs.Work.Keeping.{IsWorkOf}
 use Rattle.page_relation.specs.Work.Landing.{land, Acts}
 use Rattle.page_relation.specs.Work.Unseen.{SameStanding}
-use Rattle.page_relation.proofs.Work.Comings.{coming_same}
-use Rattle.page_relation.proofs.Work.Framing.{life_self, use_self, history_stays_law, stored_stays_law, copies_stay_law, homes_stay_law, nodes_stay_law, links_stay_law}
-use Rattle.page_relation.proofs.Work.Nodes.{at_node, at_other, kept_node, of_node}
+use Rattle.page_relation.proofs.WorkParts.Comings.{coming_same}
+use Rattle.page_relation.proofs.WorkParts.Framing.{life_self, use_self, history_stays_law, stored_stays_law, copies_stay_law, homes_stay_law, nodes_stay_law, links_stay_law}
+use Rattle.page_relation.proofs.WorkParts.Nodes.{at_node, at_other, kept_node, of_node}
 use Rattle.kept_relation.specs.Emptying.{emptied, dead_below, gone_below, nobody}
 use Rattle.kept_relation.specs.Purging.{AreSpared, FitsRebuilt, FitsServed, HasNoTable, PurgingEarlyIsRelated, PurgingEarlyLeads, PurgingIsRelated, PurgingLeads, SparedIn}
 use Rattle.kept_relation.proofs.Running.{emptying_early_is_run_law, emptying_is_run_law}

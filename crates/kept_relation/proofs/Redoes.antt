@@ -16,9 +16,9 @@ use Rattle.node_rules.specs.NodeState.{number_of, put_table, table_at}
 use Rattle.node_rules.specs.Words.{pick}
 use Rattle.node_rules.specs.Work.{Goes, Work, page_or_differs, read_page, with_home_work, with_node, work_of_home}
 use Rattle.cluster_rules.specs.Clusters.{Cluster}
-use Rattle.page_laws.proofs.Entry.Tabled.{tables_are_seen_law}
+use Rattle.page_laws.proofs.EntryParts.Tabled.{tables_are_seen_law}
 use Rattle.page_laws.specs.Look.Buffers.{IsCleaned}
-use Rattle.page_laws.proofs.Look.Copies.{cleaning_is_seen_law}
+use Rattle.page_laws.proofs.LookParts.Copies.{cleaning_is_seen_law}
 use Rattle.page_protocol.specs.Bytes.{Copy}
 use Rattle.page_protocol.specs.State.{Page}
 use Rattle.page_laws.specs.Storage.Looks.{copy_on, copy_read, page_of}
@@ -27,10 +27,10 @@ use Rattle.page_relation.specs.Work.Keeping.{IsWorkOf}
 use Rattle.page_relation.specs.Work.Landing.{disk_of}
 use Rattle.page_relation.specs.Work.Letting.{CalledBy}
 use Rattle.page_relation.specs.Work.Unseen.{IsUnseen, SameEntry, SameTable}
-use Rattle.page_relation.proofs.Work.Called.{pushed}
-use Rattle.page_relation.proofs.Work.Framing.{life_self, page_self, unseen_then}
-use Rattle.page_relation.proofs.Work.Quiet.{calls_elsewhere_law, homes_elsewhere_law, tables_elsewhere_law}
-use Rattle.page_relation.proofs.Work.Storing.{page_beside, stored_is}
+use Rattle.page_relation.proofs.WorkParts.Called.{pushed}
+use Rattle.page_relation.proofs.WorkParts.Framing.{life_self, page_self, unseen_then}
+use Rattle.page_relation.proofs.WorkParts.Quiet.{calls_elsewhere_law, homes_elsewhere_law, tables_elsewhere_law}
+use Rattle.page_relation.proofs.WorkParts.Storing.{page_beside, stored_is}
 use Rattle.kept_relation.specs.Redoing.{IsSince, MayRedo, SameClaims}
 use Rattle.kept_relation.proofs.Purged.{put_there}
 

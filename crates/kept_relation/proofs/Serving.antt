@@ -16,7 +16,7 @@ use Rattle.page_protocol.specs.Steps.{Reached, here}
 use Rattle.page_relation.specs.Work.Events.{IsEntered}
 use Rattle.page_relation.specs.Work.Keeping.{IsWorkOf, Keeps, Leads}
 use Rattle.page_relation.specs.Work.Landing.{Acts}
-use Rattle.page_relation.proofs.Work.Kept.{leads_on, reached_on}
+use Rattle.page_relation.proofs.WorkParts.Kept.{leads_on, reached_on}
 use Rattle.kept_relation.specs.Clearing.{IsClear}
 use Rattle.kept_relation.specs.Emptying.{AreDead, dead_below, nobody}
 use Rattle.kept_relation.specs.Purging.{AreSpared, FitsRebuilt, HasNoTable}

@@ -17,9 +17,9 @@ use Rattle.cluster_rules.specs.Clusters.{Cluster, node_at, view_of_epoch}
 use Rattle.cluster_rules.specs.Links.{link_at}
 use Rattle.cluster_laws.specs.Era.Counts.{counts_at, counts_in, is_dropped}
 use Rattle.cluster_laws.specs.Era.Eras.{born_at, born_in, era_at, era_in, live_at, live_in, owner_at}
-use Rattle.cluster_laws.proofs.Era.Ages.{births_are_reached_law, eras_are_reached_law, eras_have_one_owner_law}
-use Rattle.cluster_laws.proofs.Era.Counted.{counting_is_of_life_law}
-use Rattle.cluster_laws.proofs.Era.Lives.{lives_go_on_law}
+use Rattle.cluster_laws.proofs.EraParts.Ages.{births_are_reached_law, eras_are_reached_law, eras_have_one_owner_law}
+use Rattle.cluster_laws.proofs.EraParts.Counted.{counting_is_of_life_law}
+use Rattle.cluster_laws.proofs.EraParts.Lives.{lives_go_on_law}
 use Rattle.cluster_laws.specs.Link.Coming.{coming, is_coming, speaks_of}
 use Rattle.page_protocol.specs.State.{Page}
 use Rattle.page_relation.specs.Messages.{SaysSo, is_answer}
@@ -27,7 +27,7 @@ use Rattle.page_relation.specs.Relation.{MessageIs}
 use Rattle.page_relation.specs.Together.{IsParty, PartiesAre}
 use Rattle.page_relation.specs.Work.Keeping.{IsWorkOf}
 use Rattle.page_relation.specs.Work.Landing.{land, Acts}
-use Rattle.page_relation.proofs.Work.Nodes.{at_node, at_other}
+use Rattle.page_relation.proofs.WorkParts.Nodes.{at_node, at_other}
 use Rattle.kept_relation.specs.Emptying.{nobody}
 use Rattle.kept_relation.specs.Purging.{IsSpared, SparedIn}
 use Rattle.kept_relation.specs.Sparing.{ComingIsSpared, ComingIsSparedEarly, IsNoAnswer, OwnsIn, dead_in}

@@ -12,14 +12,14 @@ use Rattle.node_rules.specs.Words.{pick}
 use Rattle.cluster_rules.specs.Clusters.{Cluster, last_view, node_at, view_of_epoch}
 use Rattle.cluster_laws.specs.Sound.{IsMember}
 use Rattle.cluster_laws.specs.Era.Eras.{life_in, life_of, live_at, live_in}
-use Rattle.cluster_laws.proofs.Era.Lives.{up_nodes_live_law}
+use Rattle.cluster_laws.proofs.EraParts.Lives.{up_nodes_live_law}
 use Rattle.page_protocol.specs.State as machine
 use Rattle.page_protocol.specs.State.{Home, IsClosed, IsFresh, IsShelf, Page, Right, Shelf}
 use Rattle.page_relation.specs.Homes.{Stands, StandsIn, is_unborn, wait_on}
 use Rattle.page_relation.specs.Looks.{shelf_in, shelf_of}
 use Rattle.page_relation.specs.Relation.{on_shelf}
 use Rattle.page_relation.specs.Work.Landing.{land, Acts}
-use Rattle.page_relation.proofs.Work.Nodes.{at_other}
+use Rattle.page_relation.proofs.WorkParts.Nodes.{at_other}
 use Rattle.kept_relation.specs.Gone.{DownHaveNoShelf, GoneAreClosed}
 
 fresh_closed : (h : Home) → IsFresh h → IsClosed h

@@ -1,5 +1,5 @@
-pub mod Storage
-pub mod Moment
-pub mod Written
-pub mod Entry
-pub mod Look
+pub mod StorageParts
+pub mod MomentParts
+pub mod WrittenParts
+pub mod EntryParts
+pub mod LookParts

@@ -1,3 +1,3 @@
 pub mod Opening
-pub mod Work
-pub mod Loss
+pub mod WorkParts
+pub mod LossParts

@@ -33,9 +33,9 @@ use Rattle.cluster_laws.proofs.Steps.{opening_is_cluster_law}
 use Rattle.pcl_base.specs.declared.lock.Pending.{Pending}
 use Rattle.page_relation.specs.Looks.{slot_in, slot_of, dirty_in, dirty_of, shelf_in, shelf_of}
 use Rattle.cluster_laws.specs.Era.Eras.{era_at, owner_at}
-use Rattle.cluster_laws.proofs.Call.WholeLogs.{opening_has_whole_logs_law}
-use Rattle.cluster_laws.proofs.Link.Rising.{opening_is_in_order_law}
-use Rattle.page_laws.proofs.Storage.ReadPages.{fresh_is_stored_law}
+use Rattle.cluster_laws.proofs.CallParts.WholeLogs.{opening_has_whole_logs_law}
+use Rattle.cluster_laws.proofs.LinkParts.Rising.{opening_is_in_order_law}
+use Rattle.page_laws.proofs.StorageParts.ReadPages.{fresh_is_stored_law}
 use Rattle.page_laws.specs.Entry.Decisions.{NoWriterWaits}
 use Rattle.page_relation.specs.Messages.{AreOnce}
 use Rattle.cluster_laws.specs.Link.Coming.{coming, is_coming}

@@ -26,7 +26,7 @@ use Rattle.step_laws.proofs.Outcomes.{On, on_so}
 use Rattle.node_laws.proofs.Grants.{access_good}
 use Rattle.node_laws.proofs.Works.{Base, IsHomeWork}
 use Rattle.page_laws.specs.Look.Accesses.{HasLock, IsOneOf}
-use Rattle.page_laws.proofs.Look.Accessing.{locking_is_seen_law, access_is_seen_law}
+use Rattle.page_laws.proofs.LookParts.Accessing.{locking_is_seen_law, access_is_seen_law}
 use Rattle.related_runs.specs.Granted.{StandsAt, Given}
 use Rattle.related_runs.proofs.Standing.{IsDone, performed}
 use Rattle.related_runs.proofs.Told.{IsTold, AreTold, Fine, fine_weaker, Past, enter_fine}

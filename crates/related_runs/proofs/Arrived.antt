@@ -31,7 +31,7 @@ use Rattle.step_laws.proofs.Outcomes.{On, on_so, on_more}
 use Rattle.node_laws.proofs.Stored.{AreStored, Fits, put_by, home_fits, change_stored}
 use Rattle.node_laws.proofs.Works.{Base, IsHomeWork, same_home_of, on_is}
 use Rattle.page_laws.specs.Look.Grants.{with_shelf, lock_granted, HasArrived}
-use Rattle.page_laws.proofs.Look.Granting.{arrival_is_seen_law, spending_is_seen_law}
+use Rattle.page_laws.proofs.LookParts.Granting.{arrival_is_seen_law, spending_is_seen_law}
 use Rattle.related_runs.specs.Granted.{StandsAt, Given}
 use Rattle.related_runs.proofs.Standing.{waits_here, IsStanding, grant_stands}
 use Rattle.related_runs.proofs.Told.{AreTold, tells_moved, tells_more, Fine, fine_weaker, Past, enter_fine}

@@ -12,9 +12,9 @@ use Rattle.cluster_rules.specs.ClusterStep.{step}
 use Rattle.cluster_laws.proofs.Lists.{look_counted}
 use Rattle.cluster_laws.proofs.Steps.{plans_are_good_law}
 use Rattle.cluster_laws.specs.Link.StepLaws.{IsNodeStep, node_stays, node_acts, node_lost, node_starts}
-use Rattle.cluster_laws.proofs.Link.Nodes.{nodes_step_law}
+use Rattle.cluster_laws.proofs.LinkParts.Nodes.{nodes_step_law}
 use Rattle.cluster_laws.specs.Ask.Asked as ask
-use Rattle.cluster_laws.proofs.Ask.Kept.{steps_wait_as_asked_law}
+use Rattle.cluster_laws.proofs.AskParts.Kept.{steps_wait_as_asked_law}
 use Rattle.page_laws.specs.Moment.Looks.{asked_last}
 use Rattle.page_relation.specs.Together.{WaitsAsAsked}
 use Rattle.related_runs.specs.Parts.{StepsHaveAsked, OpeningHasSerials, StepsHaveSerials}

@@ -17,7 +17,7 @@ use Rattle.run_rules.specs.Now.{now}
 use Rattle.run_rules.specs.Script.{Moment, asked, is_refused, told, kept_tx, kept, moments_of, moments}
 use Rattle.run_rules.specs.Words.{pick}
 use Rattle.node_laws.proofs.Lists.{all_append}
-use Rattle.page_laws.proofs.Moment.Entries.{moments_more}
+use Rattle.page_laws.proofs.MomentParts.Entries.{moments_more}
 use Rattle.related_runs.specs.Granted.{Given, given_by, is_commit}
 use Rattle.related_runs.proofs.Traces.{IsQuiet, IsRightAt, IsRightIn, fresh_then}
 

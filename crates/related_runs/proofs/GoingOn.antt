@@ -3,13 +3,13 @@ use Rattle.std.proofs.Common.{◌≡◌, Bool, true, false}
 use Rattle.pcl_base.specs.declared.tx.Mode.TheVariants.{Exclusive}
 use Rattle.cluster_rules.specs.Clusters.{opening}
 use Rattle.cluster_laws.proofs.Steps.{step_keeps_clusters_law}
-use Rattle.cluster_laws.proofs.Link.Rising.{steps_keep_order_law}
+use Rattle.cluster_laws.proofs.LinkParts.Rising.{steps_keep_order_law}
 use Rattle.node_rules.specs.NodeState.{partition}
 use Rattle.page_protocol.specs.State.{Home, Fresh, Holding}
 use Rattle.page_protocol.specs.Steps.{here as no_step}
 use Rattle.page_relation.specs.Laws.{blank, opening_page}
 use Rattle.page_relation.proofs.Opening.{opening_is_related_law, opening_is_whole_law}
-use Rattle.related_runs.proofs.Locks.Stepped.{opening_has_used_law, steps_have_used_law}
+use Rattle.related_runs.proofs.LocksParts.Stepped.{opening_has_used_law, steps_have_used_law}
 use Rattle.related_runs.specs.RunLaws.{OpeningIsOfRun, StepsGoOn}
 use Rattle.related_runs.proofs.Asked.{steps_have_asked_law, opening_has_serials_law, steps_have_serials_law}
 use Rattle.related_runs.proofs.Within.{opening_has_within_law, steps_have_within_law}

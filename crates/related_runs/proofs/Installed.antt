@@ -21,8 +21,8 @@ use Rattle.node_laws.proofs.Bases.{begun_good}
 use Rattle.node_laws.proofs.Stored.{called}
 use Rattle.node_laws.proofs.Views.{moved_of}
 use Rattle.node_laws.proofs.Works.{Base, IsHomeWork}
-use Rattle.cluster_laws.proofs.Era.Lives.{live_known}
-use Rattle.cluster_laws.proofs.Era.Nexts.{follows_born}
+use Rattle.cluster_laws.proofs.EraParts.Lives.{live_known}
+use Rattle.cluster_laws.proofs.EraParts.Nexts.{follows_born}
 use Rattle.related_runs.proofs.Redone.{Here, get_fine, keep_fine, tell_fine}
 use Rattle.related_runs.proofs.Told.{AreTold, Fine, fine_weaker}
 

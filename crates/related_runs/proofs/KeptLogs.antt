@@ -38,8 +38,8 @@ use Rattle.cluster_laws.specs.Sound.{IsMember, IsCluster}
 use Rattle.cluster_laws.proofs.Cases.{handed_is_stepped_law}
 use Rattle.cluster_laws.proofs.Steps.{up_is_member_law}
 use Rattle.cluster_laws.specs.Call.CallLaws.{HasWholeLog, HaveWholeLogs, CommitsHaveNumbers}
-use Rattle.cluster_laws.proofs.Call.WholeLogs.{steps_keep_whole_logs_law}
-use Rattle.page_laws.proofs.Written.Logging.{record_can_be_written_law}
+use Rattle.cluster_laws.proofs.CallParts.WholeLogs.{steps_keep_whole_logs_law}
+use Rattle.page_laws.proofs.WrittenParts.Logging.{record_can_be_written_law}
 use Rattle.page_relation.specs.Together.{IsRelated}
 use Rattle.related_runs.specs.Parts.{RelatedKeepsLogs}
 use Rattle.related_runs.proofs.Current.{member, has_current}

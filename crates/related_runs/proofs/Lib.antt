@@ -24,5 +24,5 @@ pub mod Spoken
 pub mod Within
 pub mod AllKinds
 pub mod GoingOn
-pub mod Locks
-pub mod Between
+pub mod LocksParts
+pub mod BetweenParts

@@ -31,8 +31,8 @@ use Rattle.node_laws.proofs.Tables.{pages_are}
 use Rattle.node_laws.proofs.Works.{Base, IsHomeOf, IsHomeWork}
 use Rattle.page_laws.specs.Look.Ends.{HasKinds, HasGivenUp}
 use Rattle.page_laws.specs.Look.Grants.{of_kind}
-use Rattle.page_laws.proofs.Look.Copies.{cleaning_is_seen_law}
-use Rattle.page_laws.proofs.Look.Turning.{taking_over_is_seen_law, giving_up_is_seen_law}
+use Rattle.page_laws.proofs.LookParts.Copies.{cleaning_is_seen_law}
+use Rattle.page_laws.proofs.LookParts.Turning.{taking_over_is_seen_law, giving_up_is_seen_law}
 use Rattle.related_runs.specs.Granted.{StandsAt}
 use Rattle.related_runs.proofs.Ended.{clean_part}
 use Rattle.related_runs.proofs.PageLists.{Before, partition_once, absent_by}

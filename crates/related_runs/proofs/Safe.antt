@@ -4,9 +4,9 @@ use Rattle.cluster_rules.specs.Clusters.{Cluster}
 use Rattle.page_protocol.specs.State.{current}
 use Rattle.page_protocol.proofs.Keeps.{reached_holds}
 use Rattle.page_protocol.proofs.Promises.{durable_law}
-use Rattle.page_laws.proofs.Storage.Durables.{kept_is_durable_law}
+use Rattle.page_laws.proofs.StorageParts.Durables.{kept_is_durable_law}
 use Rattle.page_laws.specs.Moment.Looks.{IsNow}
-use Rattle.page_laws.proofs.Moment.Committing.{pages_are_now_law, now_is_serial_law}
+use Rattle.page_laws.proofs.MomentParts.Committing.{pages_are_now_law, now_is_serial_law}
 use Rattle.page_relation.specs.Together.{IsRelated}
 use Rattle.related_runs.specs.RelatedLaws.{RelatedIsSerial, RelatedIsDurable}
 

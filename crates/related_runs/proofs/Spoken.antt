@@ -36,12 +36,12 @@ use Rattle.cluster_laws.specs.Era.Counts.{is_dropped}
 use Rattle.cluster_laws.specs.Era.CountLaws.{IsOfView}
 use Rattle.cluster_laws.specs.Era.EraLaws.{AreKept}
 use Rattle.cluster_laws.specs.Era.Eras.{born_in, owner_at, born_at}
-use Rattle.cluster_laws.proofs.Era.Counted.{counting_is_of_view_law}
-use Rattle.cluster_laws.proofs.Era.Epochs.{steps_keep_made_law}
+use Rattle.cluster_laws.proofs.EraParts.Counted.{counting_is_of_view_law}
+use Rattle.cluster_laws.proofs.EraParts.Epochs.{steps_keep_made_law}
 use Rattle.cluster_laws.specs.Link.Coming.{sent_to}
 use Rattle.cluster_laws.specs.Link.StepLaws.{IsPlanned, IsNodeStep, node_stays, node_acts, node_lost, node_starts, IsLinkStep, link_stays, link_gets, link_loses, link_cleared}
-use Rattle.cluster_laws.proofs.Link.Nodes.{nodes_step_law}
-use Rattle.cluster_laws.proofs.Link.Stepped.{sizes_stay_law, links_step_law}
+use Rattle.cluster_laws.proofs.LinkParts.Nodes.{nodes_step_law}
+use Rattle.cluster_laws.proofs.LinkParts.Stepped.{sizes_stay_law, links_step_law}
 use Rattle.page_relation.specs.Together.{IsOf, PartiesAre, IsParty}
 use Rattle.related_runs.specs.Parties.{IsLiving, WaitLiving, TablesLiving, HaveLiving, HaveParties, OpeningHasLiving, StepsKeepParties}
 use Rattle.related_runs.proofs.Talking.{PartiesIn}

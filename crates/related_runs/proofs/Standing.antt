@@ -18,8 +18,8 @@ use Rattle.step_laws.proofs.Homes.{granted_home}
 use Rattle.step_laws.proofs.Outcomes.{On}
 use Rattle.page_laws.specs.Look.Accesses.{HasLock}
 use Rattle.page_laws.specs.Look.Grants.{IsSource, IsBroughtTo, current, comes, with_lock_of, IsCarriedOut}
-use Rattle.page_laws.proofs.Look.Accessing.{reading_is_seen_law, locking_is_seen_law}
-use Rattle.page_laws.proofs.Look.Granting.{bringing_is_seen_law, grant_is_seen_law}
+use Rattle.page_laws.proofs.LookParts.Accessing.{reading_is_seen_law, locking_is_seen_law}
+use Rattle.page_laws.proofs.LookParts.Granting.{bringing_is_seen_law, grant_is_seen_law}
 use Rattle.related_runs.specs.Granted.{StandsAt, Given, given_by, is_commit}
 
 -- ---- the copies of pages

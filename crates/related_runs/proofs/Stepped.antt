@@ -39,7 +39,7 @@ use Rattle.node_laws.proofs.Ends.{IsEnding, Ends, abort_good, commit_good}
 use Rattle.node_laws.proofs.Events.{not_refused}
 use Rattle.node_laws.proofs.Lists.{all_weaker}
 use Rattle.node_laws.proofs.Works.{IsBase, IsHomeWork, part_of}
-use Rattle.page_laws.proofs.Look.Closing.{abort_is_seen_law, commit_is_seen_law}
+use Rattle.page_laws.proofs.LookParts.Closing.{abort_is_seen_law, commit_is_seen_law}
 use Rattle.related_runs.specs.Granted.{Given, given_by, StandsAt, ReplyStands, GrantsStand, StepsKeepSerials}
 use Rattle.related_runs.proofs.Accessed.{access_told}
 use Rattle.related_runs.proofs.Arrived.{entered_told, release_told, take_grant_told, take_revoke_told, report_told}

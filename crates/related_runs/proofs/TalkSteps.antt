@@ -46,8 +46,8 @@ use Rattle.node_laws.proofs.Events.{not_refused}
 use Rattle.node_laws.proofs.Grants.{access_good}
 use Rattle.node_laws.proofs.Views.{KeepsOwners, moved_of, moved_keeps, begins_keep}
 use Rattle.node_laws.proofs.Works.{IsBase, IsHomeOf, IsHomeWork, part_of}
-use Rattle.cluster_laws.proofs.Era.Lives.{live_known}
-use Rattle.cluster_laws.proofs.Era.Nexts.{follows_born}
+use Rattle.cluster_laws.proofs.EraParts.Lives.{live_known}
+use Rattle.cluster_laws.proofs.EraParts.Nexts.{follows_born}
 use Rattle.page_relation.specs.Together.{IsOf}
 use Rattle.related_runs.specs.Parties.{IsLiving, WaitLiving, TablesLiving}
 use Rattle.related_runs.proofs.Stepped.{seen}

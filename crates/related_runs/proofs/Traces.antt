@@ -18,8 +18,8 @@ use Rattle.run_rules.specs.Script.{Moment, Asks, Gets, Writes, Commits, moments_
 use Rattle.run_rules.specs.Words.{pick, same_tx, same_bytes}
 use Rattle.page_protocol.specs.Bytes.{Copy, Access, Read, Write, put, Leaves}
 use Rattle.page_laws.specs.Moment.Looks.{accesses_of, HasPage}
-use Rattle.page_laws.proofs.Moment.ByPage.{writes_are_left_law}
-use Rattle.page_laws.proofs.Moment.Growing.{story_seen}
+use Rattle.page_laws.proofs.MomentParts.ByPage.{writes_are_left_law}
+use Rattle.page_laws.proofs.MomentParts.Growing.{story_seen}
 
 -- a script of some moments and of those behind them
 pub script_joined : (t : TxId) (w : Option (ℕ × List ℕ)) (xs ys : List Moment) → script_from t w (xs ++ ys) ≡ script_from t w xs ++ script_from t (fold (last_write t) w xs) ys

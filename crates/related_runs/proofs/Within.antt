@@ -25,7 +25,7 @@ use Rattle.cluster_laws.proofs.Cases.{by_step}
 use Rattle.cluster_laws.proofs.Steps.{up_is_member_law, step_keeps_clusters_law, plans_are_good_law}
 use Rattle.page_protocol.specs.Bytes.{Read, Write}
 use Rattle.page_laws.specs.Moment.Looks.{accesses_of, accesses_in}
-use Rattle.page_laws.proofs.Moment.Entries.{moments_more}
+use Rattle.page_laws.proofs.MomentParts.Entries.{moments_more}
 use Rattle.related_runs.specs.Granted.{StandsAt, Given, given_by, ReplyStands, RepliesStand}
 use Rattle.related_runs.specs.Parts.{OpeningHasWithin, StepsHaveWithin}
 use Rattle.related_runs.proofs.Entries.{quiet_asked, quiet_halt}

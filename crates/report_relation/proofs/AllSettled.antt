@@ -8,7 +8,7 @@ use Rattle.node_rules.specs.Work.{for_each}
 use Rattle.node_laws.proofs.Lists.{all_weaker}
 use Rattle.node_laws.proofs.Tables.{pages_are}
 use Rattle.page_relation.specs.Work.Keeping.{Keeps}
-use Rattle.page_relation.proofs.Work.Kept.{each_keeps}
+use Rattle.page_relation.proofs.WorkParts.Kept.{each_keeps}
 use Rattle.settle_relation.proofs.Turns.{IsBetween, settle_keeps}
 use Rattle.report_relation.specs.Settled.{AllAreSettled}
 

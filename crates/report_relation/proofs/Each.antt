@@ -13,9 +13,9 @@ use Rattle.node_rules.specs.Words.{pick}
 use Rattle.node_rules.specs.Work.{Outcome, Work, Goes, Differs, and_so, and_then, for_each, read_page, work_of_home}
 use Rattle.rule_laws.proofs.Lists.{contains_none, contains_split}
 use Rattle.cluster_rules.specs.Clusters.{Cluster}
-use Rattle.page_laws.proofs.Entry.Tabled.{tables_are_seen_law}
+use Rattle.page_laws.proofs.EntryParts.Tabled.{tables_are_seen_law}
 use Rattle.page_laws.specs.Look.Buffers.{IsCleaned}
-use Rattle.page_laws.proofs.Look.Copies.{cleaning_is_seen_law}
+use Rattle.page_laws.proofs.LookParts.Copies.{cleaning_is_seen_law}
 use Rattle.page_protocol.specs.State.{Page}
 use Rattle.page_protocol.specs.Steps.{Reached, here}
 use Rattle.page_protocol.proofs.Keeps.{and_then as runs_then}
@@ -23,10 +23,10 @@ use Rattle.page_relation.specs.Work.Keeping.{IsWorkOf}
 use Rattle.page_relation.specs.Work.Landing.{Acts}
 use Rattle.page_relation.specs.Work.Rest.{SameRest}
 use Rattle.page_relation.specs.Work.Unseen.{SameEntry, SameTable}
-use Rattle.page_relation.proofs.Work.Framing.{unseen_is_kept_law}
-use Rattle.page_relation.proofs.Work.Kept.{reached_on}
-use Rattle.page_relation.proofs.Work.Quiet.{calls_elsewhere_law, homes_elsewhere_law, tables_elsewhere_law}
-use Rattle.page_relation.proofs.Work.Storing.{page_beside}
+use Rattle.page_relation.proofs.WorkParts.Framing.{unseen_is_kept_law}
+use Rattle.page_relation.proofs.WorkParts.Kept.{reached_on}
+use Rattle.page_relation.proofs.WorkParts.Quiet.{calls_elsewhere_law, homes_elsewhere_law, tables_elsewhere_law}
+use Rattle.page_relation.proofs.WorkParts.Storing.{page_beside}
 use Rattle.settle_relation.proofs.Deciding.{put_there}
 use Rattle.report_relation.specs.Redoing.{IsRedone, MayRedo, RedoIsRelated, RedoLeads, records}
 use Rattle.report_relation.proofs.Restored.{own_leads, redo_is, redone_may, redone_to, wrote_to}

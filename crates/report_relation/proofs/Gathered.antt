@@ -14,8 +14,8 @@ use Rattle.node_rules.specs.Words.{pick, same_tx, or_else}
 use Rattle.rule_laws.proofs.Turns.{same_equal}
 use Rattle.page_laws.specs.Entry.Tables.{ReportIsSeen, IsGathered, IsListed}
 use Rattle.page_laws.specs.Entry.Tables as entry
-use Rattle.page_laws.proofs.Entry.Gathered.{gathering_is_seen_law}
-use Rattle.page_laws.proofs.Entry.Words.{all_from, all_in}
+use Rattle.page_laws.proofs.EntryParts.Gathered.{gathering_is_seen_law}
+use Rattle.page_laws.proofs.EntryParts.Words.{all_from, all_in}
 use Rattle.page_protocol.specs.State.{Page}
 use Rattle.page_relation.specs.Messages.{ReportIs, WaitIs, lists_right, CountsFor}
 use Rattle.page_relation.specs.Messages as said

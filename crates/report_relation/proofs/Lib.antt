@@ -10,5 +10,5 @@ pub mod AllSettled
 pub mod RedoMidway
 pub mod Listed
 pub mod AllRedone
-pub mod Completion
-pub mod Bury
+pub mod CompletionParts
+pub mod BuryParts

@@ -7,11 +7,11 @@ use Rattle.node_rules.specs.LockTable.{LockTable, marked}
 use Rattle.node_rules.specs.Reports.{is_missing, missing}
 use Rattle.cluster_laws.specs.Sound.{IsMember}
 use Rattle.cluster_laws.proofs.Steps.{up_is_member_law}
-use Rattle.page_laws.proofs.Entry.Words.{number_other, or_parts}
+use Rattle.page_laws.proofs.EntryParts.Words.{number_other, or_parts}
 use Rattle.cluster_laws.specs.Era.EraLaws.{KnowsEras, Lives}
 use Rattle.cluster_laws.specs.Era.Eras.{era_at, born_at, life_in, life_of}
-use Rattle.cluster_laws.proofs.Era.Ages.{era_is, born_is, live_is, births_are_reached_law, eras_go_on_law, eras_never_fall_law}
-use Rattle.cluster_laws.proofs.Era.Lives.{members_know_eras_law, up_nodes_live_law}
+use Rattle.cluster_laws.proofs.EraParts.Ages.{era_is, born_is, live_is, births_are_reached_law, eras_go_on_law, eras_never_fall_law}
+use Rattle.cluster_laws.proofs.EraParts.Lives.{members_know_eras_law, up_nodes_live_law}
 use Rattle.report_relation.specs.Completing.{OthersHaveReached, UpHaveReached}
 
 -- a test that no number passes

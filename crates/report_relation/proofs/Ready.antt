@@ -25,8 +25,8 @@ use Rattle.page_relation.specs.Relation.{HomesAre, NodesAre, TablesAre, on_shelf
 use Rattle.page_relation.specs.Tables.{IsRebuilt, ReachedBy, ReachedIn, TableIs, TableIn, TableOf, serves_in}
 use Rattle.page_relation.specs.Work.Keeping.{IsWorkOf}
 use Rattle.page_relation.specs.Work.Landing.{land, Acts}
-use Rattle.page_relation.proofs.Work.Landed.{landing_is_seen_law}
-use Rattle.page_relation.proofs.Work.Nodes.{at_node}
+use Rattle.page_relation.proofs.WorkParts.Landed.{landing_is_seen_law}
+use Rattle.page_relation.proofs.WorkParts.Nodes.{at_node}
 use Rattle.report_relation.specs.Completing.{IsReady, MayComplete, NewHaveNoRight, ReadyMayComplete}
 use Rattle.report_relation.proofs.Reaching.{others_have_reached_law}
 

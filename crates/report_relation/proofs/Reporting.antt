@@ -28,8 +28,8 @@ use Rattle.page_protocol.specs.Steps.{here}
 use Rattle.page_relation.specs.Messages.{ReportIs, SaysSo}
 use Rattle.page_relation.specs.Together.{IsParty, PartiesAre, IsOf}
 use Rattle.page_relation.specs.Work.Keeping.{IsWorkOf, Keeps, Leads}
-use Rattle.page_relation.proofs.Work.Framing.{unseen_is_kept_law}
-use Rattle.page_relation.proofs.Work.Quiet.{tables_elsewhere_law}
+use Rattle.page_relation.proofs.WorkParts.Framing.{unseen_is_kept_law}
+use Rattle.page_relation.proofs.WorkParts.Quiet.{tables_elsewhere_law}
 use Rattle.settle_relation.specs.Arriving.{IsTakenIn}
 use Rattle.settle_relation.proofs.Deciding.{put_there}
 use Rattle.settle_relation.proofs.Midway.{IsMidway, midway_on, still_same}

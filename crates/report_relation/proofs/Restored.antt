@@ -20,15 +20,15 @@ use Rattle.node_rules.specs.Work.{Outcome, Work, Goes, Differs, and_so, read_pag
 use Rattle.cluster_rules.specs.Clusters.{Cluster}
 use Rattle.cluster_laws.specs.Era.Eras.{era_in}
 use Rattle.page_laws.specs.Look.Buffers.{IsCleaned}
-use Rattle.page_laws.proofs.Look.Copies.{cleaning_is_seen_law}
+use Rattle.page_laws.proofs.LookParts.Copies.{cleaning_is_seen_law}
 use Rattle.page_protocol.specs.State.{Page}
 use Rattle.page_protocol.specs.Steps.{Reached, here, then, restores}
 use Rattle.page_protocol.specs.Storage.{restoring}
 use Rattle.page_protocol.proofs.Keeps.{reached_holds}
 use Rattle.page_laws.specs.Storage.Looks.{IsStored, page_of}
 use Rattle.page_laws.specs.Storage.Machine.{at_version}
-use Rattle.page_laws.proofs.Storage.AsSteps.{current_is_redone_law, current_stands_law, pages_are_written_law}
-use Rattle.page_laws.proofs.Storage.ReadPages.{stored_is_read_law}
+use Rattle.page_laws.proofs.StorageParts.AsSteps.{current_is_redone_law, current_stands_law, pages_are_written_law}
+use Rattle.page_laws.proofs.StorageParts.ReadPages.{stored_is_read_law}
 use Rattle.page_relation.specs.Looks.{copy_in}
 use Rattle.page_relation.specs.Tables.{IsRebuilt, TableIs}
 use Rattle.page_relation.specs.Work.Events.{IsEntered}
@@ -36,8 +36,8 @@ use Rattle.page_relation.specs.Work.Keeping.{IsWorkOf}
 use Rattle.page_relation.specs.Work.Landing.{Acts, disk_of}
 use Rattle.page_relation.specs.Work.Letting.{CalledBy}
 use Rattle.page_relation.specs.Work.Rest.{SameRest}
-use Rattle.page_relation.proofs.Work.Called.{pushed}
-use Rattle.page_relation.proofs.Work.Storing.{IsHere, copies_by, dirty_there, has_page, own_page, slot_here, slot_there, stored_alone, stored_is}
+use Rattle.page_relation.proofs.WorkParts.Called.{pushed}
+use Rattle.page_relation.proofs.WorkParts.Storing.{IsHere, copies_by, dirty_there, has_page, own_page, slot_here, slot_there, stored_alone, stored_is}
 use Rattle.settle_relation.proofs.Deciding.{put_here, put_there}
 use Rattle.report_relation.specs.Redoing.{MayRedo, RedoAgrees, RedoLeads, records}
 use Rattle.report_relation.proofs.Tabled.{table_put}

@@ -21,8 +21,8 @@ use Rattle.cluster_rules.specs.Clusters.{Cluster, node_at}
 use Rattle.cluster_laws.specs.Sound.{IsMember}
 use Rattle.cluster_laws.proofs.Steps.{up_is_member_law}
 use Rattle.cluster_laws.specs.Era.Eras.{era_at, era_in, owner_at}
-use Rattle.cluster_laws.proofs.Era.Ages.{era_is, owner_is, eras_have_one_owner_law}
-use Rattle.cluster_laws.proofs.Era.Lives.{members_know_eras_law}
+use Rattle.cluster_laws.proofs.EraParts.Ages.{era_is, owner_is, eras_have_one_owner_law}
+use Rattle.cluster_laws.proofs.EraParts.Lives.{members_know_eras_law}
 use Rattle.cluster_laws.specs.Link.Coming.{coming}
 use Rattle.cluster_laws.specs.Link.Orders.{is_report}
 use Rattle.page_protocol.specs.Bytes.{Copy}
@@ -39,10 +39,10 @@ use Rattle.page_laws.specs.Storage.Looks.{IsStored}
 use Rattle.page_relation.specs.Work.Keeping.{IsWorkOf}
 use Rattle.page_relation.specs.Work.Landing.{land, Acts}
 use Rattle.page_relation.specs.Work.Unseen.{SameStanding}
-use Rattle.page_relation.proofs.Work.Framing.{life_self, use_self, unseen_is_kept_law, history_stays_law, stored_stays_law, copies_stay_law, homes_stay_law, nodes_stay_law, links_stay_law}
-use Rattle.page_relation.proofs.Work.Landed.{landing_is_seen_law}
-use Rattle.page_relation.proofs.Work.Nodes.{of_node}
-use Rattle.page_relation.proofs.Work.Quiet.{quiet_replies_law}
+use Rattle.page_relation.proofs.WorkParts.Framing.{life_self, use_self, unseen_is_kept_law, history_stays_law, stored_stays_law, copies_stay_law, homes_stay_law, nodes_stay_law, links_stay_law}
+use Rattle.page_relation.proofs.WorkParts.Landed.{landing_is_seen_law}
+use Rattle.page_relation.proofs.WorkParts.Nodes.{of_node}
+use Rattle.page_relation.proofs.WorkParts.Quiet.{quiet_replies_law}
 use Rattle.settle_relation.proofs.Changing.{two_all}
 use Rattle.settle_relation.proofs.Deciding.{put_there}
 use Rattle.report_relation.specs.Completing.{IsReady, MayComplete, NewHaveNoRight}

@@ -6,7 +6,7 @@ use Rattle.node_rules.specs.NodeState.{is_serving, partition, put_table, table_a
 use Rattle.node_rules.specs.Reports.{gather}
 use Rattle.node_rules.specs.Work.{Work, with_node}
 use Rattle.cluster_rules.specs.Clusters.{Cluster}
-use Rattle.page_laws.proofs.Entry.Gathered.{gathering_is_seen_law}
+use Rattle.page_laws.proofs.EntryParts.Gathered.{gathering_is_seen_law}
 use Rattle.cluster_laws.specs.Era.Eras.{era_in}
 use Rattle.page_protocol.specs.State.{Page, current}
 use Rattle.page_relation.specs.Relation.{TablesAre}
@@ -14,8 +14,8 @@ use Rattle.page_relation.specs.Tables.{TableIs, TableIn, TableOf, serves_in}
 use Rattle.page_relation.specs.Work.Keeping.{IsWorkOf}
 use Rattle.page_relation.specs.Work.Landing.{land, Acts}
 use Rattle.page_relation.specs.Work.Unseen.{SameStanding}
-use Rattle.page_relation.proofs.Work.Framing.{life_self, use_self, history_stays_law, stored_stays_law, copies_stay_law, homes_stay_law, nodes_stay_law, links_stay_law}
-use Rattle.page_relation.proofs.Work.Nodes.{kept_node}
+use Rattle.page_relation.proofs.WorkParts.Framing.{life_self, use_self, history_stays_law, stored_stays_law, copies_stay_law, homes_stay_law, nodes_stay_law, links_stay_law}
+use Rattle.page_relation.proofs.WorkParts.Nodes.{kept_node}
 use Rattle.settle_relation.proofs.Deciding.{era_landed, put_there}
 use Rattle.report_relation.specs.Gathering.{GatheringIsRelated}
 use Rattle.report_relation.proofs.Gathered.{gathered_is}

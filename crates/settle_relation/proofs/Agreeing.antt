@@ -30,9 +30,9 @@ use Rattle.page_protocol.specs.Steps.{Reached, here, then}
 use Rattle.page_relation.specs.Work.Events.{IsEntered}
 use Rattle.page_relation.specs.Work.Keeping.{IsWorkOf, Leads}
 use Rattle.page_relation.specs.Work.Landing.{Acts}
-use Rattle.page_relation.proofs.Work.Kept.{reached_on}
+use Rattle.page_relation.proofs.WorkParts.Kept.{reached_on}
 use Rattle.settle_relation.specs.Grant.Carrying.{HasOwnImage}
-use Rattle.settle_relation.proofs.Grant.Accepting.{own_grant_goes_law}
+use Rattle.settle_relation.proofs.GrantParts.Accepting.{own_grant_goes_law}
 use Rattle.settle_relation.specs.Deciding.{rewound}
 use Rattle.settle_relation.proofs.Carrying.{entry_midway}
 use Rattle.settle_relation.proofs.Decisions.{IsSettling, at_version}

@@ -13,7 +13,7 @@ use Rattle.node_rules.specs.NodeState.{owner_in, partition}
 use Rattle.node_rules.specs.Work.{Work}
 use Rattle.cluster_rules.specs.Clusters.{Cluster}
 use Rattle.cluster_laws.specs.Era.Eras.{era_at, owner_at}
-use Rattle.cluster_laws.proofs.Era.Ages.{eras_have_one_owner_law}
+use Rattle.cluster_laws.proofs.EraParts.Ages.{eras_have_one_owner_law}
 use Rattle.cluster_laws.specs.Link.Coming.{speaks_of}
 use Rattle.cluster_laws.specs.Link.Orders.{how_many}
 use Rattle.page_protocol.specs.Authority.{with_shared}

@@ -40,12 +40,12 @@ use Rattle.node_laws.proofs.Stored.{home_copy}
 use Rattle.node_laws.proofs.Works.{Base, IsHomeWork, part_of}
 use Rattle.cluster_rules.specs.Clusters.{Cluster}
 use Rattle.page_laws.specs.Look.Accesses.{HasLock}
-use Rattle.page_laws.proofs.Look.Accessing.{locking_is_seen_law}
+use Rattle.page_laws.proofs.LookParts.Accessing.{locking_is_seen_law}
 use Rattle.page_laws.specs.Moment.Looks.{asked_last}
 use Rattle.page_relation.specs.Work.Granting.{MayGrant}
 use Rattle.page_relation.specs.Work.Landing.{trace_of}
 use Rattle.page_relation.specs.Work.Letting.{CalledBy}
-use Rattle.page_relation.proofs.Work.Called.{granted_called}
+use Rattle.page_relation.proofs.WorkParts.Called.{granted_called}
 use Rattle.settle_relation.proofs.Midway.{IsMidway, StillWaits, home_midway, midway_on, reply_midway, send_midway, still_same}
 
 -- a value that an outcome gives

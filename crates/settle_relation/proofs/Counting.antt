@@ -14,16 +14,16 @@ use Rattle.cluster_laws.specs.Sound.{IsMember, IsOnLink, IsCluster}
 use Rattle.cluster_laws.proofs.Steps.{up_is_member_law}
 use Rattle.cluster_laws.specs.Era.Counts.{counts_at, counts_in}
 use Rattle.cluster_laws.specs.Era.Eras.{era_at}
-use Rattle.cluster_laws.proofs.Era.Ages.{eras_never_fall_law}
-use Rattle.cluster_laws.proofs.Era.Counted.{counting_is_of_view_law}
-use Rattle.cluster_laws.proofs.Era.Lives.{members_know_eras_law, stands}
+use Rattle.cluster_laws.proofs.EraParts.Ages.{eras_never_fall_law}
+use Rattle.cluster_laws.proofs.EraParts.Counted.{counting_is_of_view_law}
+use Rattle.cluster_laws.proofs.EraParts.Lives.{members_know_eras_law, stands}
 use Rattle.cluster_laws.specs.Link.Coming.{speaks_of, is_coming, sent_to, delivers}
-use Rattle.cluster_laws.proofs.Link.Linked.{sent_have}
+use Rattle.cluster_laws.proofs.LinkParts.Linked.{sent_have}
 use Rattle.page_relation.specs.Tables.{ReachedBy, ReachedIn}
 use Rattle.page_relation.specs.Work.Landing.{land}
-use Rattle.page_relation.proofs.Work.Comings.{landed_coming}
-use Rattle.page_relation.proofs.Work.Framing.{reached_landed}
-use Rattle.page_relation.proofs.Work.Landed.{landing_is_seen_law}
+use Rattle.page_relation.proofs.WorkParts.Comings.{landed_coming}
+use Rattle.page_relation.proofs.WorkParts.Framing.{reached_landed}
+use Rattle.page_relation.proofs.WorkParts.Landed.{landing_is_seen_law}
 use Rattle.settle_relation.specs.Counted.{ComingIsNotPast}
 
 -- those that pass a test

@@ -16,7 +16,7 @@ use Rattle.node_rules.specs.Words.{pick}
 use Rattle.node_rules.specs.Work.{Work}
 use Rattle.node_laws.proofs.Lists.{set_same}
 use Rattle.cluster_rules.specs.Clusters.{Cluster}
-use Rattle.page_laws.proofs.Entry.Tabled.{tables_are_seen_law}
+use Rattle.page_laws.proofs.EntryParts.Tabled.{tables_are_seen_law}
 use Rattle.cluster_laws.specs.Era.Eras.{era_at, owner_at, era_in}
 use Rattle.cluster_laws.specs.Link.Coming.{coming}
 use Rattle.page_protocol.specs.State.{Sent, Right, Returning, Page, current}
@@ -25,9 +25,9 @@ use Rattle.page_relation.specs.Relation.{HomesAre, NodesAre, TablesAre, LinksAre
 use Rattle.page_relation.specs.Tables.{IsServed, TableIs, TableIn, TableOf, serves_in, EraIs}
 use Rattle.page_relation.specs.Work.Landing.{land, Acts}
 use Rattle.page_relation.specs.Work.Unseen.{SameStanding}
-use Rattle.page_relation.proofs.Work.Comings.{coming_same}
-use Rattle.page_relation.proofs.Work.Framing.{life_self, use_self, history_stays_law, stored_stays_law, copies_stay_law, homes_stay_law, nodes_stay_law, links_stay_law}
-use Rattle.page_relation.proofs.Work.Nodes.{changed_node, kept_node}
+use Rattle.page_relation.proofs.WorkParts.Comings.{coming_same}
+use Rattle.page_relation.proofs.WorkParts.Framing.{life_self, use_self, history_stays_law, stored_stays_law, copies_stay_law, homes_stay_law, nodes_stay_law, links_stay_law}
+use Rattle.page_relation.proofs.WorkParts.Nodes.{changed_node, kept_node}
 use Rattle.settle_relation.specs.Deciding.{rewound, decided, IsDecided, StillAnswers, ServesWith, DecidingIsRelated}
 
 -- what is put where something was, is there

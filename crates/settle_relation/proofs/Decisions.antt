@@ -20,9 +20,9 @@ use Rattle.node_laws.proofs.Works.{Base}
 use Rattle.cluster_rules.specs.Clusters.{Cluster}
 use Rattle.page_laws.specs.Entry.Decisions.{IsLocked, IsGiven, IsMarked, NoWriterWaits}
 use Rattle.page_laws.specs.Entry.Steps.{IsEntryOf, IsStepTo}
-use Rattle.page_laws.proofs.Entry.Decided.{locked_keeps, given_keeps, marked_keeps}
-use Rattle.page_laws.proofs.Entry.Stepped.{grant_is_step_law, right_is_step_law, revocation_is_none_law, not_out}
-use Rattle.page_laws.proofs.Entry.Words.{all_in}
+use Rattle.page_laws.proofs.EntryParts.Decided.{locked_keeps, given_keeps, marked_keeps}
+use Rattle.page_laws.proofs.EntryParts.Stepped.{grant_is_step_law, right_is_step_law, revocation_is_none_law, not_out}
+use Rattle.page_laws.proofs.EntryParts.Words.{all_in}
 use Rattle.cluster_laws.specs.Era.Eras.{era_at, era_in}
 use Rattle.cluster_laws.specs.Link.Coming.{coming}
 use Rattle.cluster_laws.specs.Link.EpochLaws.{IsInOrder}
@@ -38,9 +38,9 @@ use Rattle.page_relation.specs.Work.Events.{IsEntered}
 use Rattle.page_relation.specs.Work.Keeping.{IsWorkOf}
 use Rattle.page_relation.specs.Work.Landing.{land, Acts}
 use Rattle.page_relation.specs.Work.Sends.{MaySend}
-use Rattle.page_relation.proofs.Work.Comings.{coming_same}
-use Rattle.page_relation.proofs.Work.Kept.{reached_on}
-use Rattle.page_relation.proofs.Work.Sending.{send_is_kept_law}
+use Rattle.page_relation.proofs.WorkParts.Comings.{coming_same}
+use Rattle.page_relation.proofs.WorkParts.Kept.{reached_on}
+use Rattle.page_relation.proofs.WorkParts.Sending.{send_is_kept_law}
 use Rattle.settle_relation.specs.Deciding.{rewound, decided, IsDecided, StillAnswers}
 use Rattle.settle_relation.specs.Fitting.{word_sent}
 use Rattle.settle_relation.proofs.Counting.{coming_is_not_past_law}

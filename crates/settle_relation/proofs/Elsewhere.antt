@@ -25,9 +25,9 @@ use Rattle.node_laws.proofs.Pages.{entry_there}
 use Rattle.node_laws.proofs.Works.{Base}
 use Rattle.cluster_rules.specs.Clusters.{Cluster}
 use Rattle.page_relation.specs.Work.Unseen.{IsUnseen}
-use Rattle.page_relation.proofs.Work.Framing.{unseen_self, unseen_then}
-use Rattle.page_relation.proofs.Work.Granting.{grants_elsewhere_law}
-use Rattle.page_relation.proofs.Work.Quiet.{entries_elsewhere_law, sends_elsewhere_law}
+use Rattle.page_relation.proofs.WorkParts.Framing.{unseen_self, unseen_then}
+use Rattle.page_relation.proofs.WorkParts.Granting.{grants_elsewhere_law}
+use Rattle.page_relation.proofs.WorkParts.Quiet.{entries_elsewhere_law, sends_elsewhere_law}
 use Rattle.settle_relation.proofs.Carrying.{may_grant, carry_midway, entry_midway}
 use Rattle.settle_relation.proofs.Midway.{IsMidway}
 

@@ -15,9 +15,9 @@ use Rattle.node_laws.proofs.Pages.{entry_there}
 use Rattle.node_laws.proofs.Works.{Base}
 use Rattle.cluster_rules.specs.Clusters.{Cluster}
 use Rattle.page_laws.specs.Entry.Looks.{IsAsked}
-use Rattle.page_laws.proofs.Entry.Looked.{asking_is_seen_law}
-use Rattle.page_laws.proofs.Entry.Words.{all_from, all_in}
-use Rattle.page_laws.proofs.Entry.Writers.{asked_keeps}
+use Rattle.page_laws.proofs.EntryParts.Looked.{asking_is_seen_law}
+use Rattle.page_laws.proofs.EntryParts.Words.{all_from, all_in}
+use Rattle.page_laws.proofs.EntryParts.Writers.{asked_keeps}
 use Rattle.cluster_laws.specs.Era.Eras.{era_in}
 use Rattle.cluster_laws.specs.Link.EpochLaws.{IsInOrder}
 use Rattle.page_protocol.specs.State.{Page, current}
@@ -29,9 +29,9 @@ use Rattle.page_relation.specs.Work.Events.{IsEntered}
 use Rattle.page_relation.specs.Work.Keeping.{IsWorkOf, Leads}
 use Rattle.page_relation.specs.Work.Landing.{land, Acts}
 use Rattle.page_relation.specs.Work.Unseen.{SameStanding}
-use Rattle.page_relation.proofs.Work.Framing.{unseen_is_kept_law, life_self, use_self, history_stays_law, stored_stays_law, copies_stay_law, homes_stay_law, nodes_stay_law, links_stay_law}
-use Rattle.page_relation.proofs.Work.Kept.{leads_on, reached_on}
-use Rattle.page_relation.proofs.Work.Nodes.{kept_node}
+use Rattle.page_relation.proofs.WorkParts.Framing.{unseen_is_kept_law, life_self, use_self, history_stays_law, stored_stays_law, copies_stay_law, homes_stay_law, nodes_stay_law, links_stay_law}
+use Rattle.page_relation.proofs.WorkParts.Kept.{leads_on, reached_on}
+use Rattle.page_relation.proofs.WorkParts.Nodes.{kept_node}
 use Rattle.settle_relation.specs.Deciding.{rewound}
 use Rattle.settle_relation.proofs.Carrying.{entry_midway}
 use Rattle.settle_relation.proofs.Deciding.{era_landed, put_there, put_here}

@@ -26,8 +26,8 @@ use Rattle.page_relation.specs.Messages.{HasAsked, IsTold, word_of}
 use Rattle.page_relation.specs.Tables.{ReachedBy, ReachedIn}
 use Rattle.page_relation.specs.Work.Keeping.{IsWorkOf}
 use Rattle.page_relation.specs.Work.Landing.{land, Acts}
-use Rattle.page_relation.proofs.Work.Framing.{reached_landed}
-use Rattle.page_relation.proofs.Work.Nodes.{at_node, at_other}
+use Rattle.page_relation.proofs.WorkParts.Framing.{reached_landed}
+use Rattle.page_relation.proofs.WorkParts.Nodes.{at_node, at_other}
 use Rattle.settle_relation.specs.Fitting.{word_sent, word_own, WordsFit}
 
 -- ---- who isn't open told nothing that binds

@@ -15,4 +15,4 @@ pub mod Answering
 pub mod Returning
 pub mod Agreeing
 pub mod Reading
-pub mod Grant
+pub mod GrantParts

@@ -31,8 +31,8 @@ use Rattle.cluster_laws.specs.Handed.{handed_to, IsHanded}
 use Rattle.cluster_laws.specs.Sound.{IsMember, IsCluster}
 use Rattle.cluster_laws.proofs.Steps.{up_is_member_law}
 use Rattle.page_laws.specs.Moment.Looks.{asked_last, with_entry, Adds}
-use Rattle.page_laws.proofs.Moment.Entries.{event_adds_law, reply_adds_law, sent_adds_nothing_law}
-use Rattle.page_laws.proofs.Moment.Growing.{ask_tells_law, nothing_tells_law}
+use Rattle.page_laws.proofs.MomentParts.Entries.{event_adds_law, reply_adds_law, sent_adds_nothing_law}
+use Rattle.page_laws.proofs.MomentParts.Growing.{ask_tells_law, nothing_tells_law}
 use Rattle.page_protocol.specs.State as machine
 use Rattle.page_protocol.proofs.Basics.{same_tx_true}
 use Rattle.page_relation.specs.Together.{WaitsAsAsked}

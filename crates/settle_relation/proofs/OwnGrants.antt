@@ -19,8 +19,8 @@ use Rattle.node_laws.proofs.Works.{Base}
 use Rattle.cluster_rules.specs.Clusters.{Cluster}
 use Rattle.page_laws.specs.Entry.Decisions.{IsLocked}
 use Rattle.page_laws.specs.Entry.Steps.{IsStepTo}
-use Rattle.page_laws.proofs.Entry.Decided.{locked_keeps}
-use Rattle.page_laws.proofs.Entry.Stepped.{grant_is_step_law}
+use Rattle.page_laws.proofs.EntryParts.Decided.{locked_keeps}
+use Rattle.page_laws.proofs.EntryParts.Stepped.{grant_is_step_law}
 use Rattle.cluster_laws.specs.Link.EpochLaws.{IsInOrder}
 use Rattle.page_protocol.specs.Authority.{granting, WordFits}
 use Rattle.page_protocol.specs.State.{Word, Sent, Page, set_at}
@@ -30,9 +30,9 @@ use Rattle.page_relation.specs.Tables.{EraIs, WaiterIs}
 use Rattle.page_relation.specs.Work.Events.{IsEntered}
 use Rattle.page_relation.specs.Work.Keeping.{IsWorkOf, Leads}
 use Rattle.page_relation.specs.Work.Landing.{land, Acts}
-use Rattle.page_relation.proofs.Work.Kept.{reached_on}
+use Rattle.page_relation.proofs.WorkParts.Kept.{reached_on}
 use Rattle.settle_relation.specs.Grant.Carrying.{MayCarry}
-use Rattle.settle_relation.proofs.Grant.Accepting.{own_grant_leads_law}
+use Rattle.settle_relation.proofs.GrantParts.Accepting.{own_grant_leads_law}
 use Rattle.settle_relation.specs.Deciding.{rewound}
 use Rattle.settle_relation.specs.Fitting.{word_own}
 use Rattle.settle_relation.proofs.Changing.{fewer_wait, granting_decides}

@@ -37,9 +37,9 @@ use Rattle.page_relation.specs.Work.Keeping.{IsWorkOf, Leads}
 use Rattle.page_relation.specs.Work.Landing.{Acts}
 use Rattle.page_relation.specs.Work.StepEnds.{start_of, Follows}
 use Rattle.page_relation.specs.Work.Taken.{taken_of, TakenSays}
-use Rattle.page_relation.proofs.Work.Ended.{end_is_landed_law}
-use Rattle.page_relation.proofs.Work.Started.{acting}
-use Rattle.page_relation.proofs.Work.Taking.{taken_is_said_law}
+use Rattle.page_relation.proofs.WorkParts.Ended.{end_is_landed_law}
+use Rattle.page_relation.proofs.WorkParts.Started.{acting}
+use Rattle.page_relation.proofs.WorkParts.Taking.{taken_is_said_law}
 use Rattle.settle_relation.specs.Arriving.{IsTakenIn, IsWhole, RequestIsKept}
 use Rattle.settle_relation.proofs.Entering.{asked_related, enter_leads}
 use Rattle.settle_relation.proofs.Midway.{IsMidway, reply_midway, start_is_midway}

@@ -24,9 +24,9 @@ use Rattle.cluster_rules.specs.ClusterStep.{is_taken}
 use Rattle.cluster_rules.specs.Links.{link_at, tail_of}
 use Rattle.page_laws.specs.Entry.Looks.{IsReturned}
 use Rattle.page_laws.specs.Entry.Steps.{IsEntryOf, IsStepTo}
-use Rattle.page_laws.proofs.Entry.Looked.{returning_is_seen_law}
-use Rattle.page_laws.proofs.Entry.Stepped.{return_is_step_law}
-use Rattle.page_laws.proofs.Entry.Writers.{writers_wait_for_nothing_law}
+use Rattle.page_laws.proofs.EntryParts.Looked.{returning_is_seen_law}
+use Rattle.page_laws.proofs.EntryParts.Stepped.{return_is_step_law}
+use Rattle.page_laws.proofs.EntryParts.Writers.{writers_wait_for_nothing_law}
 use Rattle.cluster_laws.specs.Era.Eras.{era_at, era_in, owner_at}
 use Rattle.cluster_laws.specs.Link.Coming.{speaks_of, is_coming, coming, sent_to, delivers}
 use Rattle.cluster_laws.specs.Link.Orders.{how_many}
@@ -41,8 +41,8 @@ use Rattle.page_relation.specs.Together.{IsParty}
 use Rattle.page_relation.specs.Work.Events.{IsEntered}
 use Rattle.page_relation.specs.Work.Keeping.{IsWorkOf, Leads}
 use Rattle.page_relation.specs.Work.Landing.{land, Acts}
-use Rattle.page_relation.proofs.Work.Comings.{landed_coming}
-use Rattle.page_relation.proofs.Work.Nodes.{at_node}
+use Rattle.page_relation.proofs.WorkParts.Comings.{landed_coming}
+use Rattle.page_relation.proofs.WorkParts.Nodes.{at_node}
 use Rattle.settle_relation.specs.Arriving.{HaveParties, IsTakenIn, IsWhole, ReturnIsKept}
 use Rattle.settle_relation.specs.Deciding.{rewound, StillAnswers}
 use Rattle.settle_relation.proofs.Counting.{coming_is_not_past_law, filtered, less_all, sent_all}

@@ -14,7 +14,7 @@ use Rattle.node_laws.proofs.Lists.{all_weaker}
 use Rattle.node_laws.proofs.Works.{Base, IsSent}
 use Rattle.cluster_rules.specs.Clusters.{Cluster, view_of_epoch, last_view}
 use Rattle.cluster_laws.specs.Era.Eras.{era_at, era_in, owner_at}
-use Rattle.cluster_laws.proofs.Era.Ages.{eras_have_one_owner_law}
+use Rattle.cluster_laws.proofs.EraParts.Ages.{eras_have_one_owner_law}
 use Rattle.cluster_laws.specs.Link.Coming.{coming}
 use Rattle.cluster_laws.specs.Link.EpochLaws.{IsInOrder}
 use Rattle.page_protocol.specs.State.{Page}
@@ -22,9 +22,9 @@ use Rattle.page_relation.specs.Tables.{EraIs, IsServed, TableIs, TableIn, TableO
 use Rattle.page_relation.specs.Work.Keeping.{IsWorkOf}
 use Rattle.page_relation.specs.Work.Landing.{land, Acts}
 use Rattle.page_relation.specs.Work.Unseen.{SameEntry, SameTable, IsUnseen}
-use Rattle.page_relation.proofs.Work.Framing.{entry_self, life_self, page_self, reached_landed}
-use Rattle.page_relation.proofs.Work.Nodes.{at_node}
-use Rattle.page_relation.proofs.Work.Sending.{nothing_is_ahead_law}
+use Rattle.page_relation.proofs.WorkParts.Framing.{entry_self, life_self, page_self, reached_landed}
+use Rattle.page_relation.proofs.WorkParts.Nodes.{at_node}
+use Rattle.page_relation.proofs.WorkParts.Sending.{nothing_is_ahead_law}
 use Rattle.settle_relation.specs.Deciding.{rewound}
 use Rattle.settle_relation.proofs.Deciding.{put_there, put_here}
 use Rattle.settle_relation.proofs.Midway.{IsMidway}

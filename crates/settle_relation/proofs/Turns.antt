@@ -20,7 +20,7 @@ use Rattle.node_laws.proofs.Entries.{IsDecision, IsSettled}
 use Rattle.node_laws.proofs.Works.{Base}
 use Rattle.cluster_rules.specs.Clusters.{Cluster}
 use Rattle.page_laws.specs.Entry.Decisions.{IsLocked, IsGiven, IsMarked, Settles, rests, locks, gives, revokes}
-use Rattle.page_laws.proofs.Entry.Decided.{settling_decides_law, settling_keeps_its_version_law}
+use Rattle.page_laws.proofs.EntryParts.Decided.{settling_decides_law, settling_keeps_its_version_law}
 use Rattle.cluster_laws.specs.Link.EpochLaws.{IsInOrder}
 use Rattle.page_protocol.specs.State.{Page}
 use Rattle.page_protocol.specs.Steps.{Reached, here}
@@ -28,7 +28,7 @@ use Rattle.page_protocol.proofs.Keeps.{and_then as runs_then}
 use Rattle.page_relation.specs.Work.Events.{IsEntered}
 use Rattle.page_relation.specs.Work.Keeping.{IsWorkOf, Leads, Keeps}
 use Rattle.page_relation.specs.Work.Landing.{Acts}
-use Rattle.page_relation.proofs.Work.Framing.{unseen_is_kept_law}
+use Rattle.page_relation.proofs.WorkParts.Framing.{unseen_is_kept_law}
 use Rattle.settle_relation.specs.Deciding.{rewound}
 use Rattle.settle_relation.proofs.Carrying.{carry_midway, entry_midway}
 use Rattle.settle_relation.proofs.Deciding.{put_there}

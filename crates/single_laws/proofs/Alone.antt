@@ -22,7 +22,7 @@ use Rattle.node_rules.specs.Work.{HomeWork, Outcome, Goes, Differs}
 use Rattle.node_rules.specs.NodeStep.{Plan}
 use Rattle.home_laws.specs.Homes.{IsHome}
 use Rattle.node_rules.specs.AccessRule.{bytes_or}
-use Rattle.page_laws.proofs.Written.Patches.{Outside, InRuns, byte}
+use Rattle.page_laws.proofs.WrittenParts.Patches.{Outside, InRuns, byte}
 use Rattle.single_laws.proofs.Working.{Look, Working}
 use Rattle.single_laws.proofs.Told.{Fits, entry, tx}
 use Rattle.single_laws.proofs.Pages.{IsBase, PagesAre}

@@ -23,7 +23,7 @@ use Rattle.home_laws.proofs.Tests.{none_there, number_same}
 use Rattle.home_laws.proofs.Ends.{begin_is_sound_law}
 use Rattle.pcl_base.specs.declared.reply.Reason.TheVariants as reason
 use Rattle.node_rules.specs.AccessRule.{bytes_or}
-use Rattle.page_laws.proofs.Written.Patches.{byte}
+use Rattle.page_laws.proofs.WrittenParts.Patches.{byte}
 use Rattle.single_laws.proofs.Copies.{not_refused}
 use Rattle.single_laws.proofs.Working.{Working, nothing}
 use Rattle.single_laws.proofs.Told.{tx, begun_fits}

@@ -26,13 +26,13 @@ use Rattle.home_laws.proofs.Unpins.{times}
 use Rattle.home_laws.proofs.Runs.{written_runs}
 use Rattle.home_laws.proofs.Written.{of_each}
 use Rattle.home_laws.proofs.Records.{record_is_sound_law}
-use Rattle.page_laws.proofs.Written.Patches.{Outside, patched}
+use Rattle.page_laws.proofs.WrittenParts.Patches.{Outside, patched}
 use Rattle.single_laws.proofs.Working.{next_base}
 use Rattle.single_laws.proofs.Redone.{Redone, Says, Nothing, Next, redone_same, redone_forced}
 use Rattle.single_laws.proofs.Pages.{at}
 use Rattle.single_laws.proofs.Alone.{look_of, Busy, Alone, fresh_work}
-use Rattle.page_laws.proofs.Written.Logging.{none_in, all_of, others_of, there_of}
-use Rattle.page_laws.proofs.Written.Looked.{times_look}
+use Rattle.page_laws.proofs.WrittenParts.Logging.{none_in, all_of, others_of, there_of}
+use Rattle.page_laws.proofs.WrittenParts.Looked.{times_look}
 use Rattle.single_laws.proofs.NextBase.{is_written_page, new_none, new_some, new_fine}
 
 module _ (c : Sizes) (one : c.nodes ≡ 1) (h : HomeState) (tb : LockTable) (d : Disk) (s : Story) (alone : Alone c h tb d s) (t : TxId) (busy : Busy h tb alone.base s t)

@@ -30,8 +30,8 @@ use Rattle.single_laws.proofs.Working.{after_look, next_base, next_length, next_
 use Rattle.single_laws.proofs.Pages.{IsBase, PageIs, at}
 use Rattle.single_laws.proofs.Entries.{is_taken}
 use Rattle.single_laws.proofs.Alone.{look_of, IsOwn, Busy, Alone}
-use Rattle.page_laws.proofs.Written.Logging.{none_passes}
-use Rattle.page_laws.proofs.Written.Looked.{written_look, times_look}
+use Rattle.page_laws.proofs.WrittenParts.Logging.{none_passes}
+use Rattle.page_laws.proofs.WrittenParts.Looked.{written_look, times_look}
 use Rattle.single_laws.proofs.Telling.{ended_version}
 
 module _ (c : Sizes) (one : c.nodes ≡ 1) (h : HomeState) (tb : LockTable) (d : Disk) (s : Story) (alone : Alone c h tb d s) (t : TxId) (busy : Busy h tb alone.base s t)

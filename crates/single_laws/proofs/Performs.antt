@@ -26,7 +26,7 @@ use Rattle.home_laws.proofs.Tests.{some_there, number_equal}
 use Rattle.home_laws.proofs.SlotFound.{front_same}
 use Rattle.home_laws.proofs.Privates.{private_among}
 use Rattle.home_laws.proofs.Runs.{put_here as runs_here, put_there as runs_there}
-use Rattle.page_laws.proofs.Written.Patches.{Outside, outside_more}
+use Rattle.page_laws.proofs.WrittenParts.Patches.{Outside, outside_more}
 use Rattle.node_rules.specs.NodeState.{Run, cover, runs_at, put_runs}
 use Rattle.home_laws.proofs.PrivateLooks.{with_bytes, changed_here}
 use Rattle.home_laws.proofs.Performed.{IsDone, written_done, pool_written}

@@ -19,7 +19,7 @@ use Rattle.home_laws.proofs.Publishes.{with_published, unpublished}
 use Rattle.home_laws.proofs.EndSteps.{publish_all_follows}
 use Rattle.home_laws.proofs.Unpins.{times, copy_unpins}
 use Rattle.home_laws.proofs.Written.{times_more}
-use Rattle.page_laws.proofs.Written.Looked.{times_look}
+use Rattle.page_laws.proofs.WrittenParts.Looked.{times_look}
 
 -- ---- one page after the other
 

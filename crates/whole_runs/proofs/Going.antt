@@ -9,8 +9,8 @@ use Rattle.cluster_rules.specs.Clusters.{Cluster, opening}
 use Rattle.cluster_rules.specs.ClusterStep.{step}
 use Rattle.cluster_rules.specs.Run.{run_from, run, last_from, last}
 use Rattle.cluster_rules.specs.Safe.{Safe}
-use Rattle.cluster_laws.proofs.Link.Stepped.{sizes_stay_law}
-use Rattle.page_laws.proofs.Moment.Growing.{empty_tells_law}
+use Rattle.cluster_laws.proofs.LinkParts.Stepped.{sizes_stay_law}
+use Rattle.page_laws.proofs.MomentParts.Growing.{empty_tells_law}
 use Rattle.page_relation.specs.Laws.{blank}
 use Rattle.related_runs.specs.RunLaws.{IsOfRun}
 use Rattle.related_runs.proofs.FreshSteps.{related_stays_fresh_law}

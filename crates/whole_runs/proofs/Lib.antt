@@ -1,8 +1,8 @@
 mod Redoing
 pub mod Going
 pub mod Never
-pub mod Rest
-pub mod Report
-pub mod Install
-pub mod Act
-pub mod Halt
+pub mod RestParts
+pub mod ReportParts
+pub mod InstallParts
+pub mod ActParts
+pub mod HaltParts

@@ -16,9 +16,9 @@ use Rattle.cluster_rules.specs.Run.{last_from}
 use Rattle.cluster_laws.specs.Handed.{IsHanded}
 use Rattle.page_relation.specs.Loss.Writes.{IsNoReport}
 use Rattle.page_relation.specs.Laws as pages
-use Rattle.whole_runs.proofs.Rest.Left.{only_redoing_differs_law}
-use Rattle.whole_runs.proofs.Install.NoneDiffers.{no_install_differs_law}
-use Rattle.whole_runs.proofs.Report.Agreed.{no_report_differs_law}
+use Rattle.whole_runs.proofs.RestParts.Left.{only_redoing_differs_law}
+use Rattle.whole_runs.proofs.InstallParts.NoneDiffers.{no_install_differs_law}
+use Rattle.whole_runs.proofs.ReportParts.Agreed.{no_report_differs_law}
 use Rattle.whole_runs.specs.Runs.{IsKnownRun, NoStepDiffers}
 use Rattle.whole_runs.proofs.Going.{opening_is_known, steps_go_on_law}
 

@@ -2,9 +2,9 @@
 use Rattle.std.proofs.Common.{ℕ, List}
 use Rattle.cluster_rules.specs.Clusters.{Cluster}
 use Rattle.whole_runs.specs.Rest.Closing.{RedoingKeeps}
-use Rattle.whole_runs.proofs.Rest.Left.{redoing_is_left_law}
-use Rattle.whole_runs.proofs.Install.Installed.{installs_act_on_law}
-use Rattle.whole_runs.proofs.Report.Kept.{reports_keep_law}
+use Rattle.whole_runs.proofs.RestParts.Left.{redoing_is_left_law}
+use Rattle.whole_runs.proofs.InstallParts.Installed.{installs_act_on_law}
+use Rattle.whole_runs.proofs.ReportParts.Kept.{reports_keep_law}
 use Rattle.whole_runs.specs.Runs.{IsKnownRun, StepsKeepPages}
 
 redoing : (blank : List ℕ) (c : Cluster) → IsKnownRun blank c → RedoingKeeps blank c

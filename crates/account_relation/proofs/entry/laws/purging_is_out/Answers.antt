@@ -1,4 +1,4 @@
-use Rattle.account_relation.proofs.Entry.Changed.{purging_is_out_law}
+use Rattle.account_relation.proofs.EntryParts.Changed.{purging_is_out_law}
 use Rattle.account_relation.proofs.entry.laws.purging_is_out.Goals as goal
 
 pub returns : goal.returns

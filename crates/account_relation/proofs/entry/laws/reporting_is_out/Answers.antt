@@ -1,4 +1,4 @@
-use Rattle.account_relation.proofs.Entry.Changed.{reporting_is_out_law}
+use Rattle.account_relation.proofs.EntryParts.Changed.{reporting_is_out_law}
 use Rattle.account_relation.proofs.entry.laws.reporting_is_out.Goals as goal
 
 pub returns : goal.returns

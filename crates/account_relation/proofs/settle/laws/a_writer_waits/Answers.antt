@@ -1,4 +1,4 @@
-use Rattle.account_relation.proofs.Settle.Rights.{a_writer_waits_law}
+use Rattle.account_relation.proofs.SettleParts.Rights.{a_writer_waits_law}
 use Rattle.account_relation.proofs.settle.laws.a_writer_waits.Goals as goal
 
 pub returns : goal.returns

@@ -1,4 +1,4 @@
-use Rattle.account_relation.proofs.Step.Accounting.{runs_are_accounted_law}
+use Rattle.account_relation.proofs.StepParts.Accounting.{runs_are_accounted_law}
 use Rattle.account_relation.proofs.step.accounts.runs_are_accounted.Goals as goal
 
 pub returns : goal.returns

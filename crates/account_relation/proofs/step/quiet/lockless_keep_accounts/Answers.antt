@@ -1,4 +1,4 @@
-use Rattle.account_relation.proofs.Step.Lockless.{lockless_keep_accounts_law}
+use Rattle.account_relation.proofs.StepParts.Lockless.{lockless_keep_accounts_law}
 use Rattle.account_relation.proofs.step.quiet.lockless_keep_accounts.Goals as goal
 
 pub returns : goal.returns

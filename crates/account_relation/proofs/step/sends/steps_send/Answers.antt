@@ -1,4 +1,4 @@
-use Rattle.account_relation.proofs.Step.SentParts.{steps_send_law}
+use Rattle.account_relation.proofs.StepParts.SentParts.{steps_send_law}
 use Rattle.account_relation.proofs.step.sends.steps_send.Goals as goal
 
 pub returns : goal.returns

@@ -1,4 +1,4 @@
-use Rattle.cluster_facts.proofs.Known.Known.{granted_are_known_law}
+use Rattle.cluster_facts.proofs.KnownParts.Known.{granted_are_known_law}
 use Rattle.cluster_facts.proofs.known.births.granted_are_known.Goals as goal
 
 pub returns : goal.returns

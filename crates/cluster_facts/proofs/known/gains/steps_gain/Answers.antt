@@ -1,4 +1,4 @@
-use Rattle.cluster_facts.proofs.Known.Gaining.{steps_gain_law}
+use Rattle.cluster_facts.proofs.KnownParts.Gaining.{steps_gain_law}
 use Rattle.cluster_facts.proofs.known.gains.steps_gain.Goals as goal
 
 pub returns : goal.returns

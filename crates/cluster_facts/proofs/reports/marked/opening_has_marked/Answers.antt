@@ -1,4 +1,4 @@
-use Rattle.cluster_facts.proofs.Reports.Waiting.{opening_has_marked_law}
+use Rattle.cluster_facts.proofs.ReportsParts.Waiting.{opening_has_marked_law}
 use Rattle.cluster_facts.proofs.reports.marked.opening_has_marked.Goals as goal
 
 pub returns : goal.returns

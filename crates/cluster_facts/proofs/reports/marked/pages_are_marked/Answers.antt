@@ -1,4 +1,4 @@
-use Rattle.cluster_facts.proofs.Reports.Waiting.{pages_are_marked_law}
+use Rattle.cluster_facts.proofs.ReportsParts.Waiting.{pages_are_marked_law}
 use Rattle.cluster_facts.proofs.reports.marked.pages_are_marked.Goals as goal
 
 pub returns : goal.returns

@@ -1,4 +1,4 @@
-use Rattle.cluster_facts.proofs.Reports.Opened.{opening_has_reports_law}
+use Rattle.cluster_facts.proofs.ReportsParts.Opened.{opening_has_reports_law}
 use Rattle.cluster_facts.proofs.reports.reported.opening_has_reports.Goals as goal
 
 pub returns : goal.returns

@@ -1,4 +1,4 @@
-use Rattle.cluster_facts.proofs.Reports.Awaited.{steps_keep_reports_law}
+use Rattle.cluster_facts.proofs.ReportsParts.Awaited.{steps_keep_reports_law}
 use Rattle.cluster_facts.proofs.reports.reported.steps_keep_reports.Goals as goal
 
 pub returns : goal.returns

@@ -1,4 +1,4 @@
-use Rattle.cluster_facts.proofs.Table.Standing.{gathered_are_living_law}
+use Rattle.cluster_facts.proofs.TableParts.Standing.{gathered_are_living_law}
 use Rattle.cluster_facts.proofs.table.lives.gathered_are_living.Goals as goal
 
 pub returns : goal.returns

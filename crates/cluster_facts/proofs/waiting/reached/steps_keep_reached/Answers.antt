@@ -1,4 +1,4 @@
-use Rattle.cluster_facts.proofs.Waiting.Carried.{steps_keep_reached_law}
+use Rattle.cluster_facts.proofs.WaitingParts.Carried.{steps_keep_reached_law}
 use Rattle.cluster_facts.proofs.waiting.reached.steps_keep_reached.Goals as goal
 
 pub returns : goal.returns

@@ -1,4 +1,4 @@
-use Rattle.cluster_laws.proofs.Call.WholeLogs.{opening_has_whole_logs_law}
+use Rattle.cluster_laws.proofs.CallParts.WholeLogs.{opening_has_whole_logs_law}
 use Rattle.cluster_laws.proofs.call.logs.opening_has_whole_logs.Goals as goal
 
 pub returns : goal.returns

@@ -1,4 +1,4 @@
-use Rattle.cluster_laws.proofs.Era.Counted.{steps_count_less_law}
+use Rattle.cluster_laws.proofs.EraParts.Counted.{steps_count_less_law}
 use Rattle.cluster_laws.proofs.era.counts.steps_count_less.Goals as goal
 
 pub returns : goal.returns

@@ -1,4 +1,4 @@
-use Rattle.cluster_laws.proofs.Era.Ages.{eras_have_one_owner_law}
+use Rattle.cluster_laws.proofs.EraParts.Ages.{eras_have_one_owner_law}
 use Rattle.cluster_laws.proofs.era.eras.eras_have_one_owner.Goals as goal
 
 pub returns : goal.returns

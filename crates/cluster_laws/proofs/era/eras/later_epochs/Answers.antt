@@ -1,4 +1,4 @@
-use Rattle.cluster_laws.proofs.Era.Epochs.{later_epochs_law}
+use Rattle.cluster_laws.proofs.EraParts.Epochs.{later_epochs_law}
 use Rattle.cluster_laws.proofs.era.eras.later_epochs.Goals as goal
 
 pub returns : goal.returns

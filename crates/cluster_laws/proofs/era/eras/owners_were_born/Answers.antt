@@ -1,4 +1,4 @@
-use Rattle.cluster_laws.proofs.Era.Ages.{owners_were_born_law}
+use Rattle.cluster_laws.proofs.EraParts.Ages.{owners_were_born_law}
 use Rattle.cluster_laws.proofs.era.eras.owners_were_born.Goals as goal
 
 pub returns : goal.returns

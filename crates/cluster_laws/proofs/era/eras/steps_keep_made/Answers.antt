@@ -1,4 +1,4 @@
-use Rattle.cluster_laws.proofs.Era.Epochs.{steps_keep_made_law}
+use Rattle.cluster_laws.proofs.EraParts.Epochs.{steps_keep_made_law}
 use Rattle.cluster_laws.proofs.era.eras.steps_keep_made.Goals as goal
 
 pub returns : goal.returns

@@ -1,4 +1,4 @@
-use Rattle.cluster_laws.proofs.Era.Lives.{up_nodes_live_law}
+use Rattle.cluster_laws.proofs.EraParts.Lives.{up_nodes_live_law}
 use Rattle.cluster_laws.proofs.era.eras.up_nodes_live.Goals as goal
 
 pub returns : goal.returns

@@ -1,4 +1,4 @@
-use Rattle.cluster_laws.proofs.Link.Linked.{heads_after_law}
+use Rattle.cluster_laws.proofs.LinkParts.Linked.{heads_after_law}
 use Rattle.cluster_laws.proofs.link.links.heads_after.Goals as goal
 
 pub returns : goal.returns

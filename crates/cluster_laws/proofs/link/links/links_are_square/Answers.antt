@@ -1,4 +1,4 @@
-use Rattle.cluster_laws.proofs.Link.Linked.{links_are_square_law}
+use Rattle.cluster_laws.proofs.LinkParts.Linked.{links_are_square_law}
 use Rattle.cluster_laws.proofs.link.links.links_are_square.Goals as goal
 
 pub returns : goal.returns

@@ -1,4 +1,4 @@
-use Rattle.cluster_laws.proofs.Link.Linked.{sent_on_links_law}
+use Rattle.cluster_laws.proofs.LinkParts.Linked.{sent_on_links_law}
 use Rattle.cluster_laws.proofs.link.links.sent_on_links.Goals as goal
 
 pub returns : goal.returns

@@ -1,4 +1,4 @@
-use Rattle.cluster_laws.proofs.Link.Ordered.{ordered_at_the_end_law}
+use Rattle.cluster_laws.proofs.LinkParts.Ordered.{ordered_at_the_end_law}
 use Rattle.cluster_laws.proofs.link.orders.ordered_at_the_end.Goals as goal
 
 pub returns : goal.returns

@@ -1,4 +1,4 @@
-use Rattle.cluster_laws.proofs.Link.Ordered.{ordered_from_lower_law}
+use Rattle.cluster_laws.proofs.LinkParts.Ordered.{ordered_from_lower_law}
 use Rattle.cluster_laws.proofs.link.orders.ordered_from_lower.Goals as goal
 
 pub returns : goal.returns

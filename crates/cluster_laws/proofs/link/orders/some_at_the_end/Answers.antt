@@ -1,4 +1,4 @@
-use Rattle.cluster_laws.proofs.Link.Ordered.{some_at_the_end_law}
+use Rattle.cluster_laws.proofs.LinkParts.Ordered.{some_at_the_end_law}
 use Rattle.cluster_laws.proofs.link.orders.some_at_the_end.Goals as goal
 
 pub returns : goal.returns

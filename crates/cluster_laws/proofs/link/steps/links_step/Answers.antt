@@ -1,4 +1,4 @@
-use Rattle.cluster_laws.proofs.Link.Stepped.{links_step_law}
+use Rattle.cluster_laws.proofs.LinkParts.Stepped.{links_step_law}
 use Rattle.cluster_laws.proofs.link.steps.links_step.Goals as goal
 
 pub returns : goal.returns

@@ -1,4 +1,4 @@
-use Rattle.cluster_laws.proofs.Link.Stepped.{messages_come_from_law}
+use Rattle.cluster_laws.proofs.LinkParts.Stepped.{messages_come_from_law}
 use Rattle.cluster_laws.proofs.link.steps.messages_come_from.Goals as goal
 
 pub returns : goal.returns

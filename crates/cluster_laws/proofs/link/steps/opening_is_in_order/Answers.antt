@@ -1,4 +1,4 @@
-use Rattle.cluster_laws.proofs.Link.Rising.{opening_is_in_order_law}
+use Rattle.cluster_laws.proofs.LinkParts.Rising.{opening_is_in_order_law}
 use Rattle.cluster_laws.proofs.link.steps.opening_is_in_order.Goals as goal
 
 pub returns : goal.returns

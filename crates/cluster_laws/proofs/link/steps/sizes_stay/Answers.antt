@@ -1,4 +1,4 @@
-use Rattle.cluster_laws.proofs.Link.Stepped.{sizes_stay_law}
+use Rattle.cluster_laws.proofs.LinkParts.Stepped.{sizes_stay_law}
 use Rattle.cluster_laws.proofs.link.steps.sizes_stay.Goals as goal
 
 pub returns : goal.returns

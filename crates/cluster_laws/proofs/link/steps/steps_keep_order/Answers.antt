@@ -1,4 +1,4 @@
-use Rattle.cluster_laws.proofs.Link.Rising.{steps_keep_order_law}
+use Rattle.cluster_laws.proofs.LinkParts.Rising.{steps_keep_order_law}
 use Rattle.cluster_laws.proofs.link.steps.steps_keep_order.Goals as goal
 
 pub returns : goal.returns

@@ -1,4 +1,4 @@
-use Rattle.end_relation.proofs.Access.Stepped.{asking_is_entered_law}
+use Rattle.end_relation.proofs.AccessParts.Stepped.{asking_is_entered_law}
 use Rattle.end_relation.proofs.access.steps.asking_is_entered.Goals as goal
 
 pub returns : goal.returns

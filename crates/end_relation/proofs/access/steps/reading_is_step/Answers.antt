@@ -1,4 +1,4 @@
-use Rattle.end_relation.proofs.Access.Stepped.{reading_is_step_law}
+use Rattle.end_relation.proofs.AccessParts.Stepped.{reading_is_step_law}
 use Rattle.end_relation.proofs.access.steps.reading_is_step.Goals as goal
 
 pub returns : goal.returns

@@ -1,4 +1,4 @@
-use Rattle.end_relation.proofs.Release.Laws.{own_end_keeps_law}
+use Rattle.end_relation.proofs.ReleaseParts.Laws.{own_end_keeps_law}
 use Rattle.end_relation.proofs.release.own.own_end_keeps.Goals as goal
 
 pub returns : goal.returns

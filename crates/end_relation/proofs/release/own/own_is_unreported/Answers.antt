@@ -1,4 +1,4 @@
-use Rattle.end_relation.proofs.Release.Laws.{own_is_unreported_law}
+use Rattle.end_relation.proofs.ReleaseParts.Laws.{own_is_unreported_law}
 use Rattle.end_relation.proofs.release.own.own_is_unreported.Goals as goal
 
 pub returns : goal.returns

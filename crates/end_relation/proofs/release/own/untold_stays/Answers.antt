@@ -1,4 +1,4 @@
-use Rattle.end_relation.proofs.Release.Laws.{untold_stays_law}
+use Rattle.end_relation.proofs.ReleaseParts.Laws.{untold_stays_law}
 use Rattle.end_relation.proofs.release.own.untold_stays.Goals as goal
 
 pub returns : goal.returns

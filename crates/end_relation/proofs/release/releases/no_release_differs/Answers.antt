@@ -1,4 +1,4 @@
-use Rattle.end_relation.proofs.Release.Releasing.{no_release_differs_law}
+use Rattle.end_relation.proofs.ReleaseParts.Releasing.{no_release_differs_law}
 use Rattle.end_relation.proofs.release.releases.no_release_differs.Goals as goal
 
 pub returns : goal.returns

@@ -1,4 +1,4 @@
-use Rattle.end_relation.proofs.Release.Releasing.{release_is_kept_law}
+use Rattle.end_relation.proofs.ReleaseParts.Releasing.{release_is_kept_law}
 use Rattle.end_relation.proofs.release.releases.release_is_kept.Goals as goal
 
 pub returns : goal.returns

@@ -1,4 +1,4 @@
-use Rattle.kept_relation.proofs.Turn.Joining.{join_is_kept_law}
+use Rattle.kept_relation.proofs.TurnParts.Joining.{join_is_kept_law}
 use Rattle.kept_relation.proofs.turn.views.join_is_kept.Goals as goal
 
 pub returns : goal.returns

@@ -1,4 +1,4 @@
-use Rattle.kept_relation.proofs.Turn.Getting.{new_table_is_rebuilt_law}
+use Rattle.kept_relation.proofs.TurnParts.Getting.{new_table_is_rebuilt_law}
 use Rattle.kept_relation.proofs.turn.views.new_table_is_rebuilt.Goals as goal
 
 pub returns : goal.returns

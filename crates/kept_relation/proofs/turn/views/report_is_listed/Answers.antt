@@ -1,4 +1,4 @@
-use Rattle.kept_relation.proofs.Turn.Listing.{report_is_listed_law}
+use Rattle.kept_relation.proofs.TurnParts.Listing.{report_is_listed_law}
 use Rattle.kept_relation.proofs.turn.views.report_is_listed.Goals as goal
 
 pub returns : goal.returns

@@ -1,4 +1,4 @@
-use Rattle.kept_relation.proofs.Turn.Turning.{turning_is_step_law}
+use Rattle.kept_relation.proofs.TurnParts.Turning.{turning_is_step_law}
 use Rattle.kept_relation.proofs.turn.views.turning_is_step.Goals as goal
 
 pub returns : goal.returns

@@ -1,4 +1,4 @@
-use Rattle.kept_relation.proofs.Turn.Going.{view_is_kept_law}
+use Rattle.kept_relation.proofs.TurnParts.Going.{view_is_kept_law}
 use Rattle.kept_relation.proofs.turn.views.view_is_kept.Goals as goal
 
 pub returns : goal.returns

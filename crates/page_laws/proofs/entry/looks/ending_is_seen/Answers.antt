@@ -1,4 +1,4 @@
-use Rattle.page_laws.proofs.Entry.Looked.{ending_is_seen_law}
+use Rattle.page_laws.proofs.EntryParts.Looked.{ending_is_seen_law}
 use Rattle.page_laws.proofs.entry.looks.ending_is_seen.Goals as goal
 
 pub returns : goal.returns

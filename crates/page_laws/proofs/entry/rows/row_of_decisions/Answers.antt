@@ -1,4 +1,4 @@
-use Rattle.page_laws.proofs.Entry.Rowed.{made_row, revoked_row, beside_a_reader_row, beside_a_right_row, beside_a_writer_row, unasked_row, before_a_writer_row, to_the_owner_row, revoked_twice_row, in_vain_row}
+use Rattle.page_laws.proofs.EntryParts.Rowed.{made_row, revoked_row, beside_a_reader_row, beside_a_right_row, beside_a_writer_row, unasked_row, before_a_writer_row, to_the_owner_row, revoked_twice_row, in_vain_row}
 use Rattle.page_laws.proofs.entry.rows.row_of_decisions.Goals as goal
 
 pub returns : goal.returns

@@ -1,4 +1,4 @@
-use Rattle.page_laws.proofs.Entry.Decided.{locked_is_seen_law, given_is_seen_law, marked_is_seen_law}
+use Rattle.page_laws.proofs.EntryParts.Decided.{locked_is_seen_law, given_is_seen_law, marked_is_seen_law}
 use Rattle.page_laws.proofs.entry.settling.decisions_are_seen.Goals as goal
 
 pub returns-clause-locked : goal.returns-clause-locked

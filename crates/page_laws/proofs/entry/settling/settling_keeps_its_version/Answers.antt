@@ -1,4 +1,4 @@
-use Rattle.page_laws.proofs.Entry.Decided.{settling_keeps_its_version_law}
+use Rattle.page_laws.proofs.EntryParts.Decided.{settling_keeps_its_version_law}
 use Rattle.page_laws.proofs.entry.settling.settling_keeps_its_version.Goals as goal
 
 pub returns : goal.returns

@@ -1,4 +1,4 @@
-use Rattle.page_laws.proofs.Entry.Writers.{writers_wait_for_nothing_law}
+use Rattle.page_laws.proofs.EntryParts.Writers.{writers_wait_for_nothing_law}
 use Rattle.page_laws.proofs.entry.settling.writers_wait_for_nothing.Goals as goal
 
 pub returns : goal.returns

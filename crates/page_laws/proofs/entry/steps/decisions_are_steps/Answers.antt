@@ -1,4 +1,4 @@
-use Rattle.page_laws.proofs.Entry.Stepped.{grant_is_step_law, right_is_step_law, revocation_is_none_law}
+use Rattle.page_laws.proofs.EntryParts.Stepped.{grant_is_step_law, right_is_step_law, revocation_is_none_law}
 use Rattle.page_laws.proofs.entry.steps.decisions_are_steps.Goals as goal
 
 pub returns-clause-grant : goal.returns-clause-grant

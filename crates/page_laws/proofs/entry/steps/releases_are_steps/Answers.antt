@@ -1,4 +1,4 @@
-use Rattle.page_laws.proofs.Entry.Stepped.{release_is_step_law, change_is_step_law}
+use Rattle.page_laws.proofs.EntryParts.Stepped.{release_is_step_law, change_is_step_law}
 use Rattle.page_laws.proofs.entry.steps.releases_are_steps.Goals as goal
 
 pub returns-clause-release : goal.returns-clause-release

@@ -1,4 +1,4 @@
-use Rattle.page_laws.proofs.Entry.Tabled.{tables_are_seen_law}
+use Rattle.page_laws.proofs.EntryParts.Tabled.{tables_are_seen_law}
 use Rattle.page_laws.proofs.entry.tables.tables_are_seen.Goals as goal
 
 pub returns : goal.returns

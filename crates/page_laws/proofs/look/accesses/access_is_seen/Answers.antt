@@ -1,4 +1,4 @@
-use Rattle.page_laws.proofs.Look.Accessing.{access_is_seen_law}
+use Rattle.page_laws.proofs.LookParts.Accessing.{access_is_seen_law}
 use Rattle.page_laws.proofs.look.accesses.access_is_seen.Goals as goal
 
 pub returns : goal.returns

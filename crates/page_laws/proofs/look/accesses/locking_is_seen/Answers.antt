@@ -1,4 +1,4 @@
-use Rattle.page_laws.proofs.Look.Accessing.{locking_is_seen_law}
+use Rattle.page_laws.proofs.LookParts.Accessing.{locking_is_seen_law}
 use Rattle.page_laws.proofs.look.accesses.locking_is_seen.Goals as goal
 
 pub returns : goal.returns

@@ -1,4 +1,4 @@
-use Rattle.page_laws.proofs.Look.Accessing.{reading_under_is_seen_law}
+use Rattle.page_laws.proofs.LookParts.Accessing.{reading_under_is_seen_law}
 use Rattle.page_laws.proofs.look.accesses.reading_under_is_seen.Goals as goal
 
 pub returns : goal.returns

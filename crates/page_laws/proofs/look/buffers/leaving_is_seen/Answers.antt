@@ -1,4 +1,4 @@
-use Rattle.page_laws.proofs.Look.Copies.{leaving_is_seen_law}
+use Rattle.page_laws.proofs.LookParts.Copies.{leaving_is_seen_law}
 use Rattle.page_laws.proofs.look.buffers.leaving_is_seen.Goals as goal
 
 pub returns : goal.returns

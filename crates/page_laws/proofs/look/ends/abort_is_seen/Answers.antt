@@ -1,4 +1,4 @@
-use Rattle.page_laws.proofs.Look.Closing.{abort_is_seen_law}
+use Rattle.page_laws.proofs.LookParts.Closing.{abort_is_seen_law}
 use Rattle.page_laws.proofs.look.ends.abort_is_seen.Goals as goal
 
 pub returns : goal.returns

@@ -1,4 +1,4 @@
-use Rattle.page_laws.proofs.Look.Turning.{giving_up_is_seen_law}
+use Rattle.page_laws.proofs.LookParts.Turning.{giving_up_is_seen_law}
 use Rattle.page_laws.proofs.look.ends.giving_up_is_seen.Goals as goal
 
 pub returns : goal.returns

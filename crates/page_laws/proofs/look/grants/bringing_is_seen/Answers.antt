@@ -1,4 +1,4 @@
-use Rattle.page_laws.proofs.Look.Granting.{bringing_is_seen_law, bringing_goes_law}
+use Rattle.page_laws.proofs.LookParts.Granting.{bringing_is_seen_law, bringing_goes_law}
 use Rattle.page_laws.proofs.look.grants.bringing_is_seen.Goals as goal
 
 pub returns-clause-seen : goal.returns-clause-seen

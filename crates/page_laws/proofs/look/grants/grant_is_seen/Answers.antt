@@ -1,4 +1,4 @@
-use Rattle.page_laws.proofs.Look.Granting.{grant_is_seen_law}
+use Rattle.page_laws.proofs.LookParts.Granting.{grant_is_seen_law}
 use Rattle.page_laws.proofs.look.grants.grant_is_seen.Goals as goal
 
 pub returns : goal.returns

@@ -1,4 +1,4 @@
-use Rattle.page_laws.proofs.Look.Granting.{spending_is_seen_law}
+use Rattle.page_laws.proofs.LookParts.Granting.{spending_is_seen_law}
 use Rattle.page_laws.proofs.look.grants.spending_is_seen.Goals as goal
 
 pub returns : goal.returns

@@ -1,4 +1,4 @@
-use Rattle.page_laws.proofs.Moment.Entries.{sent_adds_nothing_law}
+use Rattle.page_laws.proofs.MomentParts.Entries.{sent_adds_nothing_law}
 use Rattle.page_laws.proofs.moment.adds.sent_adds_nothing.Goals as goal
 
 pub returns : goal.returns

@@ -1,4 +1,4 @@
-use Rattle.page_laws.proofs.Moment.Committing.{commit_runs_law}
+use Rattle.page_laws.proofs.MomentParts.Committing.{commit_runs_law}
 use Rattle.page_laws.proofs.moment.commit.commit_runs.Goals as goal
 
 pub returns : goal.returns

@@ -1,4 +1,4 @@
-use Rattle.page_laws.proofs.Moment.Committing.{now_begins_law}
+use Rattle.page_laws.proofs.MomentParts.Committing.{now_begins_law}
 use Rattle.page_laws.proofs.moment.commit.now_begins.Goals as goal
 
 pub returns : goal.returns

@@ -1,4 +1,4 @@
-use Rattle.page_laws.proofs.Moment.Committing.{now_is_serial_law}
+use Rattle.page_laws.proofs.MomentParts.Committing.{now_is_serial_law}
 use Rattle.page_laws.proofs.moment.commit.now_is_serial.Goals as goal
 
 pub returns : goal.returns

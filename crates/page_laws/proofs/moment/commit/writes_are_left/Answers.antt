@@ -1,4 +1,4 @@
-use Rattle.page_laws.proofs.Moment.ByPage.{writes_are_left_law}
+use Rattle.page_laws.proofs.MomentParts.ByPage.{writes_are_left_law}
 use Rattle.page_laws.proofs.moment.commit.writes_are_left.Goals as goal
 
 pub returns : goal.returns

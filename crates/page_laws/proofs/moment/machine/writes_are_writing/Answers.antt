@@ -1,4 +1,4 @@
-use Rattle.page_laws.proofs.Moment.AsSteps.{writes_are_writing_law}
+use Rattle.page_laws.proofs.MomentParts.AsSteps.{writes_are_writing_law}
 use Rattle.page_laws.proofs.moment.machine.writes_are_writing.Goals as goal
 
 pub returns : goal.returns

@@ -1,4 +1,4 @@
-use Rattle.page_laws.proofs.Moment.Growing.{ask_tells_law}
+use Rattle.page_laws.proofs.MomentParts.Growing.{ask_tells_law}
 use Rattle.page_laws.proofs.moment.tells.ask_tells.Goals as goal
 
 pub returns : goal.returns

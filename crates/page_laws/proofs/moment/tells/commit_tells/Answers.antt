@@ -1,4 +1,4 @@
-use Rattle.page_laws.proofs.Moment.Growing.{commit_tells_law}
+use Rattle.page_laws.proofs.MomentParts.Growing.{commit_tells_law}
 use Rattle.page_laws.proofs.moment.tells.commit_tells.Goals as goal
 
 pub returns : goal.returns

@@ -1,4 +1,4 @@
-use Rattle.page_laws.proofs.Moment.Growing.{empty_tells_law}
+use Rattle.page_laws.proofs.MomentParts.Growing.{empty_tells_law}
 use Rattle.page_laws.proofs.moment.tells.empty_tells.Goals as goal
 
 pub returns : goal.returns

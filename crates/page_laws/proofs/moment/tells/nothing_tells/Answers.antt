@@ -1,4 +1,4 @@
-use Rattle.page_laws.proofs.Moment.Growing.{nothing_tells_law}
+use Rattle.page_laws.proofs.MomentParts.Growing.{nothing_tells_law}
 use Rattle.page_laws.proofs.moment.tells.nothing_tells.Goals as goal
 
 pub returns : goal.returns

@@ -1,4 +1,4 @@
-use Rattle.page_laws.proofs.Moment.Growing.{read_tells_law}
+use Rattle.page_laws.proofs.MomentParts.Growing.{read_tells_law}
 use Rattle.page_laws.proofs.moment.tells.read_tells.Goals as goal
 
 pub returns : goal.returns

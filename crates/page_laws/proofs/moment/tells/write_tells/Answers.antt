@@ -1,4 +1,4 @@
-use Rattle.page_laws.proofs.Moment.Growing.{write_tells_law}
+use Rattle.page_laws.proofs.MomentParts.Growing.{write_tells_law}
 use Rattle.page_laws.proofs.moment.tells.write_tells.Goals as goal
 
 pub returns : goal.returns

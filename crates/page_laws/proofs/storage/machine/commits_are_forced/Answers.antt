@@ -1,4 +1,4 @@
-use Rattle.page_laws.proofs.Storage.AsSteps.{commits_are_forced_law}
+use Rattle.page_laws.proofs.StorageParts.AsSteps.{commits_are_forced_law}
 use Rattle.page_laws.proofs.storage.machine.commits_are_forced.Goals as goal
 
 pub returns : goal.returns

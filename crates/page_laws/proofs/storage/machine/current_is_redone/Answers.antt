@@ -1,4 +1,4 @@
-use Rattle.page_laws.proofs.Storage.AsSteps.{current_is_redone_law}
+use Rattle.page_laws.proofs.StorageParts.AsSteps.{current_is_redone_law}
 use Rattle.page_laws.proofs.storage.machine.current_is_redone.Goals as goal
 
 pub returns : goal.returns

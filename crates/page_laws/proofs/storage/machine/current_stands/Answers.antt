@@ -1,4 +1,4 @@
-use Rattle.page_laws.proofs.Storage.AsSteps.{current_stands_law}
+use Rattle.page_laws.proofs.StorageParts.AsSteps.{current_stands_law}
 use Rattle.page_laws.proofs.storage.machine.current_stands.Goals as goal
 
 pub returns : goal.returns

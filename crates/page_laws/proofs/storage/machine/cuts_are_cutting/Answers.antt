@@ -1,4 +1,4 @@
-use Rattle.page_laws.proofs.Storage.AsSteps.{cuts_are_cutting_law}
+use Rattle.page_laws.proofs.StorageParts.AsSteps.{cuts_are_cutting_law}
 use Rattle.page_laws.proofs.storage.machine.cuts_are_cutting.Goals as goal
 
 pub returns : goal.returns

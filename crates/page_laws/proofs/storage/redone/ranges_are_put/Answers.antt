@@ -1,4 +1,4 @@
-use Rattle.page_laws.proofs.Storage.Redos.{ranges_are_put_law}
+use Rattle.page_laws.proofs.StorageParts.Redos.{ranges_are_put_law}
 use Rattle.page_laws.proofs.storage.redone.ranges_are_put.Goals as goal
 
 pub returns : goal.returns

@@ -1,4 +1,4 @@
-use Rattle.page_laws.proofs.Storage.Redos.{redone_is_current_law}
+use Rattle.page_laws.proofs.StorageParts.Redos.{redone_is_current_law}
 use Rattle.page_laws.proofs.storage.redone.redone_is_current.Goals as goal
 
 pub returns : goal.returns

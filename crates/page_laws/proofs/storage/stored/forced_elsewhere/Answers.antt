@@ -1,4 +1,4 @@
-use Rattle.page_laws.proofs.Storage.Calls.{forced_elsewhere_law}
+use Rattle.page_laws.proofs.StorageParts.Calls.{forced_elsewhere_law}
 use Rattle.page_laws.proofs.storage.stored.forced_elsewhere.Goals as goal
 
 pub returns : goal.returns

@@ -1,4 +1,4 @@
-use Rattle.page_laws.proofs.Storage.Stops.{stops_leave_law}
+use Rattle.page_laws.proofs.StorageParts.Stops.{stops_leave_law}
 use Rattle.page_laws.proofs.storage.stored.stops_leave.Goals as goal
 
 pub returns : goal.returns

@@ -1,4 +1,4 @@
-use Rattle.page_laws.proofs.Storage.ReadPages.{stored_is_read_law}
+use Rattle.page_laws.proofs.StorageParts.ReadPages.{stored_is_read_law}
 use Rattle.page_laws.proofs.storage.stored.stored_is_read.Goals as goal
 
 pub returns : goal.returns

@@ -1,4 +1,4 @@
-use Rattle.page_laws.proofs.Storage.Calls.{whole_is_its_length_law}
+use Rattle.page_laws.proofs.StorageParts.Calls.{whole_is_its_length_law}
 use Rattle.page_laws.proofs.storage.stored.whole_is_its_length.Goals as goal
 
 pub returns : goal.returns

@@ -1,4 +1,4 @@
-use Rattle.page_laws.proofs.Storage.Calls.{written_elsewhere_law}
+use Rattle.page_laws.proofs.StorageParts.Calls.{written_elsewhere_law}
 use Rattle.page_laws.proofs.storage.stored.written_elsewhere.Goals as goal
 
 pub returns : goal.returns

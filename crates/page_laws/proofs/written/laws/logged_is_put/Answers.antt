@@ -1,4 +1,4 @@
-use Rattle.page_laws.proofs.Written.Differing.{logged_is_put_law}
+use Rattle.page_laws.proofs.WrittenParts.Differing.{logged_is_put_law}
 use Rattle.page_laws.proofs.written.laws.logged_is_put.Goals as goal
 
 pub returns : goal.returns

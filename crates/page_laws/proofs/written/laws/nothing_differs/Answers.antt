@@ -1,4 +1,4 @@
-use Rattle.page_laws.proofs.Written.Differing.{nothing_differs_law}
+use Rattle.page_laws.proofs.WrittenParts.Differing.{nothing_differs_law}
 use Rattle.page_laws.proofs.written.laws.nothing_differs.Goals as goal
 
 pub returns : goal.returns

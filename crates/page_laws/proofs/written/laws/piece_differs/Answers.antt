@@ -1,4 +1,4 @@
-use Rattle.page_laws.proofs.Written.Differing.{piece_differs_law}
+use Rattle.page_laws.proofs.WrittenParts.Differing.{piece_differs_law}
 use Rattle.page_laws.proofs.written.laws.piece_differs.Goals as goal
 
 pub returns : goal.returns

@@ -1,4 +1,4 @@
-use Rattle.page_relation.proofs.Loss.Crashes.{crashed_is_related_law}
+use Rattle.page_relation.proofs.LossParts.Crashes.{crashed_is_related_law}
 use Rattle.page_relation.proofs.loss.laws.crashed_is_related.Goals as goal
 
 pub returns : goal.returns

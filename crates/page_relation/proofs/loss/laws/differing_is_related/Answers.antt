@@ -1,4 +1,4 @@
-use Rattle.page_relation.proofs.Loss.Halted.{differing_is_related_law}
+use Rattle.page_relation.proofs.LossParts.Halted.{differing_is_related_law}
 use Rattle.page_relation.proofs.loss.laws.differing_is_related.Goals as goal
 
 pub returns : goal.returns

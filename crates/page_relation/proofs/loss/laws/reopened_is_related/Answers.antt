@@ -1,4 +1,4 @@
-use Rattle.page_relation.proofs.Loss.Views.{reopened_is_related_law}
+use Rattle.page_relation.proofs.LossParts.Views.{reopened_is_related_law}
 use Rattle.page_relation.proofs.loss.laws.reopened_is_related.Goals as goal
 
 pub returns : goal.returns

@@ -1,4 +1,4 @@
-use Rattle.page_relation.proofs.Loss.Views.{viewed_is_related_law}
+use Rattle.page_relation.proofs.LossParts.Views.{viewed_is_related_law}
 use Rattle.page_relation.proofs.loss.laws.viewed_is_related.Goals as goal
 
 pub returns : goal.returns

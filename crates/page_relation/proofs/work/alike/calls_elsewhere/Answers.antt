@@ -1,4 +1,4 @@
-use Rattle.page_relation.proofs.Work.Quiet.{calls_elsewhere_law}
+use Rattle.page_relation.proofs.WorkParts.Quiet.{calls_elsewhere_law}
 use Rattle.page_relation.proofs.work.alike.calls_elsewhere.Goals as goal
 
 pub returns : goal.returns

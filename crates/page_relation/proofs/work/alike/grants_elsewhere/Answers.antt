@@ -1,4 +1,4 @@
-use Rattle.page_relation.proofs.Work.Granting.{grants_elsewhere_law}
+use Rattle.page_relation.proofs.WorkParts.Granting.{grants_elsewhere_law}
 use Rattle.page_relation.proofs.work.alike.grants_elsewhere.Goals as goal
 
 pub returns : goal.returns

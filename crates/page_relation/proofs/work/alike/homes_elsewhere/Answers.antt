@@ -1,4 +1,4 @@
-use Rattle.page_relation.proofs.Work.Quiet.{homes_elsewhere_law}
+use Rattle.page_relation.proofs.WorkParts.Quiet.{homes_elsewhere_law}
 use Rattle.page_relation.proofs.work.alike.homes_elsewhere.Goals as goal
 
 pub returns : goal.returns

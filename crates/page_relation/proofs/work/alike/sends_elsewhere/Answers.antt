@@ -1,4 +1,4 @@
-use Rattle.page_relation.proofs.Work.Quiet.{sends_elsewhere_law}
+use Rattle.page_relation.proofs.WorkParts.Quiet.{sends_elsewhere_law}
 use Rattle.page_relation.proofs.work.alike.sends_elsewhere.Goals as goal
 
 pub returns : goal.returns

@@ -1,4 +1,4 @@
-use Rattle.page_relation.proofs.Work.Simple.{evict_is_kept_law}
+use Rattle.page_relation.proofs.WorkParts.Simple.{evict_is_kept_law}
 use Rattle.page_relation.proofs.work.events.evict_is_kept.Goals as goal
 
 pub returns : goal.returns

@@ -1,4 +1,4 @@
-use Rattle.page_relation.proofs.Work.Simple.{flush_is_kept_law}
+use Rattle.page_relation.proofs.WorkParts.Simple.{flush_is_kept_law}
 use Rattle.page_relation.proofs.work.events.flush_is_kept.Goals as goal
 
 pub returns : goal.returns

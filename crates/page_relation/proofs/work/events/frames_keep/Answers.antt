@@ -1,4 +1,4 @@
-use Rattle.page_relation.proofs.Work.Letting.{frames_keep_law}
+use Rattle.page_relation.proofs.WorkParts.Letting.{frames_keep_law}
 use Rattle.page_relation.proofs.work.events.frames_keep.Goals as goal
 
 pub returns : goal.returns

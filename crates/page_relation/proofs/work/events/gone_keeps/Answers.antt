@@ -1,4 +1,4 @@
-use Rattle.page_relation.proofs.Work.Storing.{gone_keeps_law}
+use Rattle.page_relation.proofs.WorkParts.Storing.{gone_keeps_law}
 use Rattle.page_relation.proofs.work.events.gone_keeps.Goals as goal
 
 pub returns : goal.returns

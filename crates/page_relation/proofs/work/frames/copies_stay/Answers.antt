@@ -1,4 +1,4 @@
-use Rattle.page_relation.proofs.Work.Framing.{copies_stay_law}
+use Rattle.page_relation.proofs.WorkParts.Framing.{copies_stay_law}
 use Rattle.page_relation.proofs.work.frames.copies_stay.Goals as goal
 
 pub returns : goal.returns

@@ -1,4 +1,4 @@
-use Rattle.page_relation.proofs.Work.Framing.{history_stays_law}
+use Rattle.page_relation.proofs.WorkParts.Framing.{history_stays_law}
 use Rattle.page_relation.proofs.work.frames.history_stays.Goals as goal
 
 pub returns : goal.returns

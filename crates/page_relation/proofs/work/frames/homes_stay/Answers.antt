@@ -1,4 +1,4 @@
-use Rattle.page_relation.proofs.Work.Framing.{homes_stay_law}
+use Rattle.page_relation.proofs.WorkParts.Framing.{homes_stay_law}
 use Rattle.page_relation.proofs.work.frames.homes_stay.Goals as goal
 
 pub returns : goal.returns

@@ -1,4 +1,4 @@
-use Rattle.page_relation.proofs.Work.Landed.{landing_is_seen_law}
+use Rattle.page_relation.proofs.WorkParts.Landed.{landing_is_seen_law}
 use Rattle.page_relation.proofs.work.frames.landing_is_seen.Goals as goal
 
 pub returns : goal.returns

@@ -1,4 +1,4 @@
-use Rattle.page_relation.proofs.Work.Framing.{links_stay_law}
+use Rattle.page_relation.proofs.WorkParts.Framing.{links_stay_law}
 use Rattle.page_relation.proofs.work.frames.links_stay.Goals as goal
 
 pub returns : goal.returns

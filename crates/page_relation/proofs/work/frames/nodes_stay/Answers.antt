@@ -1,4 +1,4 @@
-use Rattle.page_relation.proofs.Work.Framing.{nodes_stay_law}
+use Rattle.page_relation.proofs.WorkParts.Framing.{nodes_stay_law}
 use Rattle.page_relation.proofs.work.frames.nodes_stay.Goals as goal
 
 pub returns : goal.returns

@@ -1,4 +1,4 @@
-use Rattle.page_relation.proofs.Work.Resting.{rest_stays_law}
+use Rattle.page_relation.proofs.WorkParts.Resting.{rest_stays_law}
 use Rattle.page_relation.proofs.work.frames.rest_stays.Goals as goal
 
 pub returns : goal.returns

@@ -1,4 +1,4 @@
-use Rattle.page_relation.proofs.Work.Framing.{stored_stays_law}
+use Rattle.page_relation.proofs.WorkParts.Framing.{stored_stays_law}
 use Rattle.page_relation.proofs.work.frames.stored_stays.Goals as goal
 
 pub returns : goal.returns

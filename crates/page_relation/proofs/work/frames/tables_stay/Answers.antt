@@ -1,4 +1,4 @@
-use Rattle.page_relation.proofs.Work.Framing.{tables_stay_law}
+use Rattle.page_relation.proofs.WorkParts.Framing.{tables_stay_law}
 use Rattle.page_relation.proofs.work.frames.tables_stay.Goals as goal
 
 pub returns : goal.returns

@@ -1,4 +1,4 @@
-use Rattle.page_relation.proofs.Work.Framing.{unseen_is_kept_law}
+use Rattle.page_relation.proofs.WorkParts.Framing.{unseen_is_kept_law}
 use Rattle.page_relation.proofs.work.frames.unseen_is_kept.Goals as goal
 
 pub returns : goal.returns

@@ -1,4 +1,4 @@
-use Rattle.page_relation.proofs.Work.Sending.{send_is_linked_law}
+use Rattle.page_relation.proofs.WorkParts.Sending.{send_is_linked_law}
 use Rattle.page_relation.proofs.work.sends.send_is_linked.Goals as goal
 
 pub returns : goal.returns

@@ -1,4 +1,4 @@
-use Rattle.related_runs.proofs.Between.Losing.{halted_pages_are_left_law}
+use Rattle.related_runs.proofs.BetweenParts.Losing.{halted_pages_are_left_law}
 use Rattle.related_runs.proofs.between.kinds.halted_pages_are_left.Goals as goal
 
 pub returns : goal.returns

@@ -1,4 +1,4 @@
-use Rattle.related_runs.proofs.Between.Wrote.{writes_are_wrote_law}
+use Rattle.related_runs.proofs.BetweenParts.Wrote.{writes_are_wrote_law}
 use Rattle.related_runs.proofs.between.parts.writes_are_wrote.Goals as goal
 
 pub returns : goal.returns

@@ -1,4 +1,4 @@
-use Rattle.related_runs.proofs.Locks.Stands.{readers_are_used_law}
+use Rattle.related_runs.proofs.LocksParts.Stands.{readers_are_used_law}
 use Rattle.related_runs.proofs.locks.seen.readers_are_used.Goals as goal
 
 pub returns : goal.returns

@@ -1,4 +1,4 @@
-use Rattle.report_relation.proofs.Bury.Installing.{installed_is_kept_law}
+use Rattle.report_relation.proofs.BuryParts.Installing.{installed_is_kept_law}
 use Rattle.report_relation.proofs.bury.installed.installed_is_kept.Goals as goal
 
 pub returns : goal.returns

@@ -1,4 +1,4 @@
-use Rattle.report_relation.proofs.Bury.KeptServed.{kept_is_clear_law}
+use Rattle.report_relation.proofs.BuryParts.KeptServed.{kept_is_clear_law}
 use Rattle.report_relation.proofs.bury.kept.kept_is_clear.Goals as goal
 
 pub returns : goal.returns

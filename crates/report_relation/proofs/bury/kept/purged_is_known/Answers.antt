@@ -1,4 +1,4 @@
-use Rattle.report_relation.proofs.Bury.Carried.{purged_is_known_law}
+use Rattle.report_relation.proofs.BuryParts.Carried.{purged_is_known_law}
 use Rattle.report_relation.proofs.bury.kept.purged_is_known.Goals as goal
 
 pub returns : goal.returns

@@ -1,4 +1,4 @@
-use Rattle.report_relation.proofs.Bury.Closed.{past_are_closed_law}
+use Rattle.report_relation.proofs.BuryParts.Closed.{past_are_closed_law}
 use Rattle.report_relation.proofs.bury.past.past_are_closed.Goals as goal
 
 pub returns : goal.returns

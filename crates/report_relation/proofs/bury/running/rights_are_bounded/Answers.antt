@@ -1,4 +1,4 @@
-use Rattle.report_relation.proofs.Bury.Bounds.{rights_are_bounded_law}
+use Rattle.report_relation.proofs.BuryParts.Bounds.{rights_are_bounded_law}
 use Rattle.report_relation.proofs.bury.running.rights_are_bounded.Goals as goal
 
 pub returns : goal.returns

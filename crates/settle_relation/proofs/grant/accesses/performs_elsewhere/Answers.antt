@@ -1,4 +1,4 @@
-use Rattle.settle_relation.proofs.Grant.Elsewhere.{performs_elsewhere_law}
+use Rattle.settle_relation.proofs.GrantParts.Elsewhere.{performs_elsewhere_law}
 use Rattle.settle_relation.proofs.grant.accesses.performs_elsewhere.Goals as goal
 
 pub returns : goal.returns

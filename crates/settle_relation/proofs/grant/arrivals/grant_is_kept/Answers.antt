@@ -1,4 +1,4 @@
-use Rattle.settle_relation.proofs.Grant.Arriving.{grant_is_kept_law}
+use Rattle.settle_relation.proofs.GrantParts.Arriving.{grant_is_kept_law}
 use Rattle.settle_relation.proofs.grant.arrivals.grant_is_kept.Goals as goal
 
 pub returns : goal.returns

@@ -1,4 +1,4 @@
-use Rattle.whole_runs.proofs.Act.Simple.{untaken_acts}
+use Rattle.whole_runs.proofs.ActParts.Simple.{untaken_acts}
 use Rattle.whole_runs.proofs.act.acted.untaken_act_is_kept.Goals as goal
 
 pub returns : goal.returns

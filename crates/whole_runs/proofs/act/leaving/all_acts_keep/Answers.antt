@@ -1,4 +1,4 @@
-use Rattle.whole_runs.proofs.Act.Pages.{all_acts_keep_law}
+use Rattle.whole_runs.proofs.ActParts.Pages.{all_acts_keep_law}
 use Rattle.whole_runs.proofs.act.leaving.all_acts_keep.Goals as goal
 
 pub returns : goal.returns

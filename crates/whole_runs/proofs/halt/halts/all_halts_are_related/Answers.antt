@@ -1,4 +1,4 @@
-use Rattle.whole_runs.proofs.Halt.Stopping.{all_halts_are_related_law}
+use Rattle.whole_runs.proofs.HaltParts.Stopping.{all_halts_are_related_law}
 use Rattle.whole_runs.proofs.halt.halts.all_halts_are_related.Goals as goal
 
 pub returns : goal.returns

@@ -1,4 +1,4 @@
-use Rattle.whole_runs.proofs.Halt.Stopping.{all_write_versions_law}
+use Rattle.whole_runs.proofs.HaltParts.Stopping.{all_write_versions_law}
 use Rattle.whole_runs.proofs.halt.halts.all_write_versions.Goals as goal
 
 pub returns : goal.returns

@@ -1,4 +1,4 @@
-use Rattle.whole_runs.proofs.Install.NoneDiffers.{no_install_differs_law}
+use Rattle.whole_runs.proofs.InstallParts.NoneDiffers.{no_install_differs_law}
 use Rattle.whole_runs.proofs.install.installs.no_install_differs.Goals as goal
 
 pub returns : goal.returns

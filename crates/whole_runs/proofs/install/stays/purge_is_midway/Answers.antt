@@ -1,4 +1,4 @@
-use Rattle.whole_runs.proofs.Install.Lost.{purge_is_midway_law}
+use Rattle.whole_runs.proofs.InstallParts.Lost.{purge_is_midway_law}
 use Rattle.whole_runs.proofs.install.stays.purge_is_midway.Goals as goal
 
 pub returns : goal.returns

@@ -1,4 +1,4 @@
-use Rattle.whole_runs.proofs.Install.Going.{kept_goes_on_law}
+use Rattle.whole_runs.proofs.InstallParts.Going.{kept_goes_on_law}
 use Rattle.whole_runs.proofs.install.turns.kept_goes_on.Goals as goal
 
 pub returns : goal.returns

@@ -1,4 +1,4 @@
-use Rattle.whole_runs.proofs.Install.Kept.{turns_are_kept_law}
+use Rattle.whole_runs.proofs.InstallParts.Kept.{turns_are_kept_law}
 use Rattle.whole_runs.proofs.install.turns.turns_are_kept.Goals as goal
 
 pub returns : goal.returns

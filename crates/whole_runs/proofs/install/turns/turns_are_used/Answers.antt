@@ -1,4 +1,4 @@
-use Rattle.whole_runs.proofs.Install.Used.{turns_are_used_law}
+use Rattle.whole_runs.proofs.InstallParts.Used.{turns_are_used_law}
 use Rattle.whole_runs.proofs.install.turns.turns_are_used.Goals as goal
 
 pub returns : goal.returns

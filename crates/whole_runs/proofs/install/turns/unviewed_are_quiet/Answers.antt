@@ -1,4 +1,4 @@
-use Rattle.whole_runs.proofs.Install.Early.{unviewed_are_quiet_law}
+use Rattle.whole_runs.proofs.InstallParts.Early.{unviewed_are_quiet_law}
 use Rattle.whole_runs.proofs.install.turns.unviewed_are_quiet.Goals as goal
 
 pub returns : goal.returns

@@ -1,4 +1,4 @@
-use Rattle.whole_runs.proofs.Report.Agreed.{no_report_differs_law}
+use Rattle.whole_runs.proofs.ReportParts.Agreed.{no_report_differs_law}
 use Rattle.whole_runs.proofs.report.reports.no_report_differs.Goals as goal
 
 pub returns : goal.returns

@@ -1,4 +1,4 @@
-use Rattle.whole_runs.proofs.Report.Known.{reports_may_be_taken_law}
+use Rattle.whole_runs.proofs.ReportParts.Known.{reports_may_be_taken_law}
 use Rattle.whole_runs.proofs.report.reports.reports_may_be_taken.Goals as goal
 
 pub returns : goal.returns

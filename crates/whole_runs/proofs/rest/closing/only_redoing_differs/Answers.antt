@@ -1,4 +1,4 @@
-use Rattle.whole_runs.proofs.Rest.Left.{only_redoing_differs_law}
+use Rattle.whole_runs.proofs.RestParts.Left.{only_redoing_differs_law}
 use Rattle.whole_runs.proofs.rest.closing.only_redoing_differs.Goals as goal
 
 pub returns : goal.returns

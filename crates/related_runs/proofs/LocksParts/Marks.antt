@@ -1,0 +1,172 @@
+-- The locks of open transactions, and that a reply of the step has granted each that is new.
+use Rattle.std.proofs.Common.{◌≡◌, ◌⊎◌, inl, inr, refl, ap, sym, subst, ◌∙◌, ℕ, ◌==◌, not, Bool, true, false, List, [], ◌∷◌, ◌++◌, Option, Some, None, is_some, eqb-true}
+use Rattle.std.specs.Prelude.{IfSome}
+use Rattle.std.specs.List.{AllByRecursion}
+use Rattle.pcl_base.specs.Limits.{Sizes}
+use Rattle.pcl_base.specs.declared.lock.Held.{Held}
+use Rattle.pcl_base.specs.declared.lock.Kind.{Kind}
+use Rattle.pcl_base.specs.declared.lock.Pending.{Pending}
+use Rattle.pcl_base.specs.declared.reply.Reply.{Reply}
+use Rattle.pcl_base.specs.declared.tx.TxId.{TxId}
+use Rattle.home_laws.proofs.Locks.{put_there}
+use Rattle.node_rules.specs.Words.{pick}
+use Rattle.node_rules.specs.AccessRule.{kinds_on}
+use Rattle.node_rules.specs.InstallRule.{all_kinds, kinds_of_locks}
+use Rattle.node_rules.specs.NodeState.{HomeState, partition}
+use Rattle.node_rules.specs.OpenTxs.{OpenTx, OpenTxs, begin, lock_on, waits_on, kind_on, change_open, with_lock, put_lock, add, wait, set_kind, close_tx}
+use Rattle.node_laws.proofs.Lists.{all_push, all_filter, all_map, all_weaker}
+use Rattle.related_runs.proofs.LocksParts.Accesses.{HasGrant, grant_front}
+
+-- ---- locks
+
+-- a lock once another is put in is that one or was there
+put_held : (hs : List Held) (l : Held) (q : ℕ) → is_some (lock_on (put_lock hs l) q) ≡ true → (l.page ≡ q) ⊎ (is_some (lock_on hs q) ≡ true)
+put_held hs l q e = by (l.page == q) refl
+  where
+    by : (b : Bool) → (l.page == q) ≡ b → (l.page ≡ q) ⊎ (is_some (lock_on hs q) ≡ true)
+    by true f = inl (eqb-true l.page q f)
+    by false f = inr (sym (ap is_some (put_there hs l q f)) ∙ e)
+
+-- another kind leaves it there
+kind_held : (hs : List Held) (p : ℕ) (k : Kind) (q : ℕ) → is_some (lock_on (kind_on hs p k) q) ≡ is_some (lock_on hs q)
+unfolding kind_on lock_on
+kind_held [] p k q = refl
+kind_held (h ∷ hs) p k q = by (h.page == p) (kind_held hs p k q)
+  where
+    last : (y : Bool) (x : Held) → is_some (lock_on (kind_on hs p k) q) ≡ is_some (lock_on hs q)
+        → is_some (pick y (Some x) (lock_on (kind_on hs p k) q)) ≡ is_some (pick y (Some h) (lock_on hs q))
+    last true x rest = refl
+    last false x rest = rest
+
+    by : (a : Bool) → is_some (lock_on (kind_on hs p k) q) ≡ is_some (lock_on hs q)
+        → is_some (pick ((pick a (record h { kind = k }) h).page == q) (Some (pick a (record h { kind = k }) h)) (lock_on (kind_on hs p k) q)) ≡ is_some (pick (h.page == q) (Some h) (lock_on hs q))
+    by true rest = last (h.page == q) (record h { kind = k }) rest
+    by false rest = last (h.page == q) h rest
+
+kinds_held : (c : Sizes) (r : ℕ) (k : Kind) (hs : List Held) (q : ℕ) → is_some (lock_on (kinds_of_locks c r k hs) q) ≡ is_some (lock_on hs q)
+unfolding lock_on
+kinds_held c r k [] q = refl
+kinds_held c r k (h ∷ hs) q = by (partition c h.page == r) (kinds_held c r k hs q)
+  where
+    last : (y : Bool) (x : Held) → is_some (lock_on (kinds_of_locks c r k hs) q) ≡ is_some (lock_on hs q)
+        → is_some (pick y (Some x) (lock_on (kinds_of_locks c r k hs) q)) ≡ is_some (pick y (Some h) (lock_on hs q))
+    last true x rest = refl
+    last false x rest = rest
+
+    by : (a : Bool) → is_some (lock_on (kinds_of_locks c r k hs) q) ≡ is_some (lock_on hs q)
+        → is_some (pick ((pick a (record h { kind = k }) h).page == q) (Some (pick a (record h { kind = k }) h)) (lock_on (kinds_of_locks c r k hs) q)) ≡ is_some (pick (h.page == q) (Some h) (lock_on hs q))
+    by true rest = last (h.page == q) (record h { kind = k }) rest
+    by false rest = last (h.page == q) h rest
+
+-- no lock
+pub nothing_held : (q : ℕ) → is_some (lock_on [] q) ≡ true → ⊥
+unfolding lock_on
+nothing_held q e = cc
+
+-- ---- open transactions
+
+-- Names of node and birth; what each transaction asked for last; and the locks that were there before the step.
+module _ (node born : ℕ) (f : ℕ → Option (ℕ × List ℕ)) (Old : ℕ → ℕ → Type 0) where
+  abbrev pub name : ℕ → TxId
+  name k = record { node = node; born = born; serial = k }
+
+  -- a lock was there, or an access was granted
+  abbrev pub Has : List Reply → ℕ → ℕ → Type 0
+  Has rs k q = Old k q ⊎ HasGrant (name k) (f k) q rs
+
+  -- an access that waits is the one asked for last
+  abbrev pub WaitIs : ℕ → Pending → Type 0
+  WaitIs k w = w.write ≡ f k
+
+  abbrev pub LocksHave : List Reply → OpenTx → Type 0
+  LocksHave rs x = (q : ℕ) → is_some (lock_on x.pages q) ≡ true → Has rs x.serial q
+
+  abbrev pub IsFine : List Reply → OpenTx → Type 0
+  IsFine rs x = IfSome x.waiting (WaitIs x.serial) × LocksHave rs x
+
+  abbrev pub AreFine : List Reply → List OpenTx → Type 0
+  AreFine rs xs = AllByRecursion (IsFine rs) xs
+
+  -- the open transactions of the node
+  abbrev pub FineTxs : List Reply → OpenTxs → Type 0
+  FineTxs rs s = ((s.node ≡ node) × (s.born ≡ born)) × AreFine rs s.txs
+
+  -- a home
+  abbrev pub Fine : List Reply → HomeState → Type 0
+  Fine rs h = FineTxs rs h.txs
+
+  -- further replies
+  has_more : (rs ss : List Reply) (k q : ℕ) → Has rs k q → Has (rs ++ ss) k q
+  has_more rs ss k q (inl old) = inl old
+  has_more rs ss k q (inr given) = inr (grant_front (name k) (f k) q rs ss given)
+
+  has_first : (r : Reply) (rs : List Reply) (k q : ℕ) → Has rs k q → Has (r ∷ rs) k q
+  has_first r rs k q (inl old) = inl old
+  has_first r rs k q (inr given) = inr (inr given)
+
+  pub txs_more : (rs ss : List Reply) (s : OpenTxs) → FineTxs rs s → FineTxs (rs ++ ss) s
+  txs_more rs ss s i =
+      (i.0, all_weaker (IsFine rs) (IsFine (rs ++ ss)) (λ x a. (a.0, λ q e. has_more rs ss x.serial q (a.1 q e))) s.txs i.1)
+
+  pub fine_more : (rs ss : List Reply) (h : HomeState) → Fine rs h → Fine (rs ++ ss) h
+  fine_more rs ss h i = txs_more rs ss h.txs i
+
+  pub fine_first : (r : Reply) (rs : List Reply) (h : HomeState) → Fine rs h → Fine (r ∷ rs) h
+  fine_first r rs h i =
+      (i.0, all_weaker (IsFine rs) (IsFine (r ∷ rs)) (λ x a. (a.0, λ q e. has_first r rs x.serial q (a.1 q e))) h.txs.txs i.1)
+
+  module _ (rs : List Reply) where
+    -- a change of one of them
+    changed : (g : OpenTx → OpenTx) (k : ℕ) → ((x : OpenTx) → x.serial ≡ k → IsFine rs x → IsFine rs (g x)) → (xs : List OpenTx) → AreFine rs xs → AreFine rs (change_open g xs k)
+    unfolding change_open
+    changed g k on [] all = tt
+    changed g k on (x ∷ xs) all = (by (x.serial == k) refl, changed g k on xs all.1)
+      where
+        by : (b : Bool) → (x.serial == k) ≡ b → IsFine rs (pick b (g x) x)
+        by true e = on x (eqb-true x.serial k e) all.0
+        by false e = all.0
+
+    locked_fine : (l : Held) (x : OpenTx) → Has rs x.serial l.page → IsFine rs x → IsFine rs (with_lock l x)
+    locked_fine l x has a = (by (waits_on x.waiting l.page), λ q e. locks q (put_held x.pages l q e))
+      where
+        by : (b : Bool) → IfSome (pick b None x.waiting) (WaitIs x.serial)
+        by true = tt
+        by false = a.0
+
+        locks : (q : ℕ) → (l.page ≡ q) ⊎ (is_some (lock_on x.pages q) ≡ true) → Has rs x.serial q
+        locks q (inl new) = subst (Has rs x.serial) new has
+        locks q (inr old) = a.1 q old
+
+    pub added : (s : OpenTxs) (t : TxId) (l : Held) → Has rs t.serial l.page → FineTxs rs s → FineTxs rs (add s t l)
+    unfolding add
+    added s t l has all =
+        (all.0, changed (with_lock l) t.serial (λ x same a. locked_fine l x (subst (λ (k : ℕ). Has rs k l.page) (sym same) has) a) s.txs all.1)
+
+    pub waits : (s : OpenTxs) (t : TxId) (w : Pending) → WaitIs t.serial w → FineTxs rs s → FineTxs rs (wait s t w)
+    unfolding wait
+    waits s t w is all = (all.0, changed (λ x. record x { waiting = Some w }) t.serial (λ x same a. (subst (λ (k : ℕ). WaitIs k w) (sym same) is, a.1)) s.txs all.1)
+
+    kind_set : (s : OpenTxs) (t : TxId) (p : ℕ) (k : Kind) → FineTxs rs s → FineTxs rs (set_kind s t p k)
+    unfolding set_kind
+    kind_set s t p k all =
+        (all.0, changed (λ x. record x { pages = kind_on x.pages p k }) t.serial (λ x same a. (a.0, λ q e. a.1 q (sym (kind_held x.pages p k q) ∙ e))) s.txs all.1)
+
+    pub kinds_set : (s : OpenTxs) (ts : List TxId) (p : ℕ) (k : Kind) → FineTxs rs s → FineTxs rs (kinds_on s ts p k)
+    unfolding kinds_on
+    kinds_set s [] p k all = all
+    kinds_set s (t ∷ ts) p k all = kinds_set (set_kind s t p k) ts p k (kind_set s t p k all)
+
+    pub closes : (s : OpenTxs) (t : TxId) → FineTxs rs s → FineTxs rs (close_tx s t)
+    unfolding close_tx
+    closes s t all = (all.0, all_filter (IsFine rs) (λ x. not (x.serial == t.serial)) s.txs all.1)
+
+    pub begins : (s : OpenTxs) → FineTxs rs s → FineTxs rs (begin s)
+    unfolding begin
+    begins s all = (all.0, all_push (IsFine rs) s.txs _ all.1 (tt, λ q e. absurd (nothing_held q e)))
+
+    pub kinds_fine : (q : ℕ) (k : Kind) (h : HomeState) → Fine rs h → Fine rs (all_kinds q k h)
+    kinds_fine q k h i = (
+      i.0,
+      all_map (IsFine rs) (IsFine rs) (λ (x : OpenTx). record x { pages = kinds_of_locks h.config q k x.pages })
+          (λ x a. (a.0, λ p e. a.1 p (sym (kinds_held h.config q k x.pages p) ∙ e))) h.txs.txs i.1,
+    )
