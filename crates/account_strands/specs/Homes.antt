@@ -1,6 +1,6 @@
 -- What the ledger of a trace has of each node's transactions: requests that aren't answered, registered locks, writes that wait
 -- and that were granted, and releases that were sent.
-use Rattle.std.specs.Prelude.{◌≡◌, ◌==◌, ◌&&◌, ◌||◌, ℕ, ◌≤◌, Bool, true, false, Option, Some, None, IfSome, length}
+use Rattle.std.specs.Prelude.{◌≡◌, ◌==◌, ◌&&◌, ◌||◌, ℕ, ◌≤◌, nat_lt, Bool, true, false, Option, Some, None, IfSome, length}
 use Rattle.std.specs.List.{list_any, filter}
 use Rattle.pcl_base.specs.Limits.{Sizes}
 use Rattle.pcl_base.specs.declared.lock.Kind.{Kind}
@@ -10,7 +10,7 @@ use Rattle.run_rules.specs.Ledger.{Ledger, first_ledger, is_of, is_want}
 use Rattle.run_rules.specs.Views.{View}
 use Rattle.node_rules.specs.NodeState.{NodeState, number_of, page_owner}
 use Rattle.node_rules.specs.OpenTxs.{is_open, held_by, pending_of}
-use Rattle.node_rules.specs.Words.{is_exclusive, nat_lt}
+use Rattle.node_rules.specs.Words.{is_exclusive}
 use Rattle.home_laws.specs.Homes.{is_exclusive_lock}
 use Rattle.cluster_rules.specs.Clusters.{Cluster, opening, node_at, last_view}
 

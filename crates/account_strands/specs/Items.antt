@@ -1,5 +1,5 @@
 -- What the ledger of a trace has of each node's tables: items of those that wait there, and rights that are out.
-use Rattle.std.specs.Prelude.{◌≡◌, ℕ, Option, IfSome, length}
+use Rattle.std.specs.Prelude.{◌≡◌, ℕ, IfSome, length}
 use Rattle.pcl_base.specs.Limits.{Sizes}
 use Rattle.run_rules.specs.Ledger.{Ledger, first_ledger, wanted_at, rights_at}
 use Rattle.node_rules.specs.LockRule.{LockEntry}
