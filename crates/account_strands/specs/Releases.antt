@@ -1,5 +1,5 @@
 -- The causes of releases, against the ledger before the sends of an entry.
-use Rattle.std.specs.Prelude.{◌≡◌, ◌==◌, ◌&&◌, ◌||◌, ◌×◌, not, ℕ, Bool, true, false, List, [], ◌∷◌, Option, ⊤, slice_index}
+use Rattle.std.specs.Prelude.{◌≡◌, ◌==◌, ◌&&◌, ◌||◌, not, ℕ, Bool, true, false, List, [], ◌∷◌, Option, ⊤, slice_index}
 use Rattle.std.specs.List.{AllByRecursion, list_any}
 use Rattle.pcl_base.specs.declared.message.Body.{Body}
 use Rattle.pcl_base.specs.declared.message.Body.TheVariants as body
