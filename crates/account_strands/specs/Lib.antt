@@ -1,0 +1,4 @@
+pub mod Items
+pub mod Homes
+pub mod Releases
+pub mod Versions

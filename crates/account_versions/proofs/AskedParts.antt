@@ -1,0 +1,5 @@
+pub mod Homes
+pub mod Owned
+pub mod Events
+pub mod Starting
+pub mod Stepping
